@@ -46,7 +46,7 @@ pub impl Kind for Marks as MarksKind {
         if a < Self::COUNT && b < Self::COUNT {
             a & b
         } else {
-            Self::SILENT
+            Self::silent_decision()
         }
     }
 
@@ -54,7 +54,7 @@ pub impl Kind for Marks as MarksKind {
         if a < Self::COUNT && b < Self::COUNT {
             a | b
         } else {
-            Self::SILENT
+            Self::silent_decision()
         }
     }
 

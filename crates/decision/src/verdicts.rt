@@ -49,7 +49,7 @@ pub impl Kind for Verdicts as VerdictsKind {
         if a < Self::COUNT && b < Self::COUNT {
             a.min(b)
         } else {
-            Self::SILENT
+            Self::silent_decision()
         }
     }
 
@@ -57,7 +57,7 @@ pub impl Kind for Verdicts as VerdictsKind {
         if a < Self::COUNT && b < Self::COUNT {
             a.max(b)
         } else {
-            Self::SILENT
+            Self::silent_decision()
         }
     }
 
