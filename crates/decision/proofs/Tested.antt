@@ -1,5 +1,5 @@
 -- The laws of a kind from tests of all its decisions. Assumes nothing.
-use mathlib.Core.Path.{_≡_, refl, subst}
+use mathlib.Core.Path.{_≡_, subst}
 use mathlib.Core.Logic.{inl, inr}
 use mathlib.Core.Bool.{Bool, true, false, not, _&&_, _||_}
 use mathlib.Core.List.{List}
@@ -9,7 +9,8 @@ use lib.Dec.{ltb, eqb}
 use Rattle.std.specs.shelf.Text.{sameBytes}
 use Rattle.std.proofs.shelf.Tests.{and-parts, and-from, eqb-true, ltb-true, cases-lt}
 use Rattle.std.proofs.shelf.Equals.{sameBytes-decides}
-use Rattle.decision.specs.Kinds.{Lattice, Spelling}
+use Rattle.decision.specs.Kinds.{Lattice, Words, first-word}
+use Rattle.decision.proofs.Words.{words-apart}
 
 -- does the test pass at every number below n?
 abbrev all : ℕ → (ℕ → Bool) → Bool
@@ -69,5 +70,8 @@ module _ (n : ℕ) (below : ℕ → ℕ → Bool) (meet join : ℕ → ℕ → �
     join-least = λ a b c la lb lc x y. so-both _ _ _ (at-three n _ jl a b c la lb lc) x y;
   }
 
-pub spelling-tested : (n : ℕ) (word : ℕ → List ℕ) → all n (λ a. all n (λ b. so (sameBytes (word a) (word b)) (eqb a b))) ≡ true → Spelling n word
-spelling-tested n word h a b la lb e = eqb-true a b (so-then _ _ (at-two n (λ a b. so (sameBytes (word a) (word b)) (eqb a b)) h a b la lb) (sameBytes-decides (word a) (word b) .1 e))
+pub words-tested : (n silent : ℕ) (word : ℕ → List ℕ) → ltb silent n ≡ true
+    → all n (λ a. all n (λ b. so (sameBytes (word a) (word b)) (eqb a b))) ≡ true → all n (λ d. first-word (word d)) ≡ true → Words n silent word
+words-tested n silent word l apart first = words-apart n silent word
+    (λ a b la lb e. eqb-true a b (so-then _ _ (at-two n (λ a b. so (sameBytes (word a) (word b)) (eqb a b)) apart a b la lb) (sameBytes-decides (word a) (word b) .1 e)))
+    (ltb-true silent n l) (at n (λ d. first-word (word d)) first)

@@ -1,10 +1,10 @@
 -- What a decision kind shows of its decisions, the numbers below its count. Cited by src/kind.rt. Assumes nothing.
 use mathlib.Core.Path.{_≡_}
 use mathlib.Core.Logic.{_⊎_}
-use mathlib.Core.List.{List}
+use mathlib.Core.List.{List, [], _∷_}
 use mathlib.Core.Bool.{Bool, true, false, cond, not, _&&_}
 use Prim.Native.Nat.{ℕ, zero, suc, _≤_, _<_}
-use lib.Dec.{ltb, eqb}
+use lib.Dec.{leb, ltb, eqb}
 use Rattle.std.specs.shelf.Text.{sameBytes}
 use Rattle.std.specs.declared.option.Option.{Option}
 use Rattle.std.specs.declared.option.Option.the-variants.{Some, None}
@@ -49,11 +49,23 @@ known-below count below a b = both count a b && below a b
 abbrev pub known-or : ℕ → ℕ → (ℕ → ℕ → ℕ) → ℕ → ℕ → ℕ
 known-or count silent op a b = cond (both count a b) (op a b) silent
 
--- no two decisions have one word
-abbrev pub Spelling : ℕ → (ℕ → List ℕ) → Type 0
-Spelling count word = (a b : ℕ) → a < count → b < count → word a ≡ word b → a ≡ b
-
 -- the decision below n, other than the silent one, that has this word
 unfoldable pub read-word : ℕ → ℕ → (ℕ → List ℕ) → List ℕ → Option ℕ
 read-word zero silent word w = None
 read-word (suc n) silent word w = cond (not (eqb n silent) && sameBytes (word n) w) (Some n) (read-word n silent word w)
+
+-- can each byte stand inside a word of a line? That is, from 33 to 126: no space, and nothing that a line may not hold
+abbrev pub inside-word : List ℕ → Bool
+inside-word [] = true
+inside-word (b ∷ bs) = leb 33 b && leb b 126 && inside-word bs
+
+-- can the bytes stand as the first word of a line? They are not empty, and do not begin a comment, with # (35)
+abbrev pub first-word : List ℕ → Bool
+first-word [] = false
+first-word (b ∷ bs) = not (eqb b 35) && inside-word (b ∷ bs)
+
+-- what is written is read back; the silent decision's word is not read; every word can stand first in a line
+pub record Words (count silent : ℕ) (word : ℕ → List ℕ) : Type 0 where
+  pub read-back : (d : ℕ) → d < count → (d ≡ silent → ⊥) → read-word count silent word (word d) ≡ Some d
+  pub silent-unread : read-word count silent word (word silent) ≡ None
+  pub stands-first : (d : ℕ) → d < count → first-word (word d) ≡ true

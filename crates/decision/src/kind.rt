@@ -2,13 +2,12 @@
 ghost use mathlib.Core.Path.{_≡_};
 ghost use mathlib.Core.Bool.{Bool};
 ghost use mathlib.Core.List.{List};
-ghost use Prim.Native.Nat.{ℕ, _<_, _≤_};
-ghost use lib.ListN.{length};
-ghost use Rattle.std.specs.declared.option.Option.{Option};
-ghost use Rattle.std.specs.Options.{Cases as BySome};
+ghost use Prim.Native.Nat.{ℕ};
 ghost use Rattle.std.specs.shelf.Text.{sameBytes};
-ghost use Rattle.decision.specs.Kinds.{Bounds, Lattice, Foreign, Spelling, read-word};
+ghost use Rattle.decision.specs.Kinds.{Bounds, Lattice, Foreign, Words, read-word};
 
+// A kind's decisions are the numbers below its count. Generic code reads the three constants through the functions below, whose
+// contracts say which number they answer.
 pub trait Kind {
     const NUMBER: u8;
 
@@ -16,18 +15,25 @@ pub trait Kind {
 
     const SILENT: u8;
 
+    // the kind's number
     ghost label: { ℕ };
 
+    // its count of decisions
     ghost size: { ℕ };
 
+    // its silent decision
     ghost silence: { ℕ };
 
+    // is a below b?
     ghost under: { ℕ → ℕ → Bool };
 
+    // the meet of two
     ghost lower: { ℕ → ℕ → ℕ };
 
+    // the join of two
     ghost upper: { ℕ → ℕ → ℕ };
 
+    // the word of a decision
     ghost spelling: { ℕ → List ℕ };
 
     law bounds: { Bounds label size silence };
@@ -36,7 +42,7 @@ pub trait Kind {
 
     law foreign: { Foreign size silence under lower upper };
 
-    law words: { Spelling size spelling };
+    law words: { Words size silence spelling };
 
     fn kind_number() -> u8
         ensures { λ r. ⌜ r ≡ label ⌝ };
@@ -59,6 +65,7 @@ pub trait Kind {
     fn word<'a>(decision: u8) -> &'a str
         ensures { λ r. ⌜ now r ≡ spelling decision ⌝ };
 
+    // The decision other than the silent one that has this word.
     fn read(word: &[u8]) -> Option<u8>
         ensures { λ r. ⌜ r ≡ read-word size silence spelling (now (word .entry)) ⌝ }
     {
