@@ -1,0 +1,4 @@
+pub mod Refusals
+pub mod Rules
+pub mod PlainList
+pub mod Books
