@@ -8,5 +8,6 @@ pub mod refusal;
 pub mod rule;
 
 pub use book::Book;
+pub use book::source::BookSource;
 pub use refusal::Refusal;
 pub use rule::Rule;
