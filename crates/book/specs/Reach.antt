@@ -23,16 +23,20 @@ nearest f p (rule ∷ rules) = min (run f p rule) (nearest f p rules)
 abbrev pub in-play : ℕ → List ℕ → Rule → Bool
 in-play f p rule = holds (take f (ranges (rule .region))) (take f p)
 
+-- does the range hold every value up to the largest?
+abbrev pub whole : ℕ → Range ℕ → Bool
+whole top r = eqb (r .low) 0 && leb top (r .high)
+
 -- does each range hold every value of its field?
-abbrev pub whole : List ℕ → List (Range ℕ) → Bool
-whole [] [] = true
-whole [] (r ∷ rs) = false
-whole (top ∷ rest) [] = false
-whole (top ∷ rest) (r ∷ rs) = (eqb (r .low) 0 && leb top (r .high)) && whole rest rs
+abbrev pub all-whole : List ℕ → List (Range ℕ) → Bool
+all-whole [] [] = true
+all-whole [] (r ∷ rs) = false
+all-whole (top ∷ rest) [] = false
+all-whole (top ∷ rest) (r ∷ rs) = whole top r && all-whole rest rs
 
 -- does the rule hold p's value of field f, and every value of the later fields?
 abbrev pub settles : ℕ → List ℕ → Rule → Bool
-settles f p rule = inside (range-at (ranges (rule .region)) f) (getD p f 0) && whole (drop (suc f) tops) (drop (suc f) (ranges (rule .region)))
+settles f p rule = inside (range-at (ranges (rule .region)) f) (getD p f 0) && all-whole (drop (suc f) tops) (drop (suc f) (ranges (rule .region)))
 
 -- the rules looked at: those in play, up to the first of them that settles
 unfoldable pub looked-at : ℕ → List ℕ → List Rule → List Rule

@@ -1,12 +1,12 @@
 // A book as a source.
 ghost use mathlib.Core.Path.{_≡_};
-ghost use Prim.Native.Nat.{_≤_, _<_};
-ghost use lib.ListN.{length, take};
-ghost use Rattle.packet.specs.Packets.{values, tops, place};
+ghost use Prim.Native.Nat.{suc, _≤_, _<_};
+ghost use lib.ListN.{length, take, drop};
+ghost use Rattle.packet.specs.Packets.{values, tops};
 ghost use Rattle.packet.specs.Regions.{holds};
 ghost use Rattle.book.specs.Books.{rules-of};
 ghost use Rattle.book.specs.Deciding.{first, meant};
-ghost use Rattle.book.specs.Reach.{nearest, looked-at, whole, Stops};
+ghost use Rattle.book.specs.Reach.{nearest, looked-at, whole, all-whole, Stops};
 use crate::book::Book;
 use crate::rule::Rule;
 use decision::Kind;
@@ -30,7 +30,7 @@ pub impl<K: Kind> Source<K> for Book<K> as BookSource {
     }
 
     fn edge(&self, field: Field, packet: &Packet) -> u32 {
-        nearest_end(self.rules.as_slice(), field, *packet)
+        nearest_end(self.rules.as_slice(), field.index(), &packet.to_array())
     }
 }
 
@@ -46,22 +46,21 @@ fn first_decision(rules: &[Rule], packet: Packet, silent: u8) -> u8
     silent
 }
 
-// The nearest end, on the field, of the rules looked at.
-fn nearest_end(rules: &[Rule], field: Field, packet: Packet) -> u32
-    ensures { λ r. ⌜ r ≡ nearest (place field) (values packet) (looked-at (place field) (values packet) (now (rules .entry))) ⌝ }
+// The nearest end of the rules looked at, on the field at the index, from the packet's value up.
+fn nearest_end(rules: &[Rule], index: usize, packet: &[u32]) -> u32
+    requires { ⌜ index < length tops ⌝ ∗ ⌜ length (now packet) ≡ length tops ⌝ }
+    ensures { λ r. ⌜ r ≡ nearest index (now (packet .entry)) (looked-at index (now (packet .entry)) (now (rules .entry))) ⌝ }
 {
-    let index = field.index();
-    let value = packet.get(field);
-    let values = packet.to_array();
-    let top = field.top();
-    let tops = largest_values();
+    let largest = largest_values();
+    let value = packet[index];
+    let top = largest[index];
     let mut end = top;
     for rule in rules {
         let ranges = rule.region.to_array();
-        if are_inside(&ranges[0..index], &values[0..index]) {
+        if hold_before(&ranges, packet, index) {
             let range = ranges[index];
             end = end.min(range.run_end(value, top));
-            if range.contains(value) && are_whole(&ranges[index + 1..5], &tops[index + 1..5]) {
+            if range.contains(value) && are_whole_behind(&ranges, &largest, index) {
                 return end;
             }
         }
@@ -82,28 +81,35 @@ fn largest_values() -> [u32; Field::COUNT]
     ]
 }
 
-// Does each range hold its value?
-fn are_inside(ranges: &[Range<u32>], values: &[u32]) -> bool
-    requires { ⌜ length (now ranges) ≡ length (now values) ⌝ }
-    ensures { λ r. ⌜ r ≡ holds (now (ranges .entry)) (now (values .entry)) ⌝ }
+// Do the ranges before the index hold their values?
+fn hold_before(ranges: &[Range<u32>], packet: &[u32], index: usize) -> bool
+    requires { ⌜ index ≤ length (now ranges) ⌝ ∗ ⌜ index ≤ length (now packet) ⌝ }
+    ensures { λ r. ⌜ r ≡ holds (take index (now (ranges .entry))) (take index (now (packet .entry))) ⌝ }
 {
-    for i in 0..ranges.len() {
-        if !ranges[i].contains(values[i]) {
+    for i in 0..index {
+        if !ranges[i].contains(packet[i]) {
             return false;
         }
     }
     true
 }
 
-// Does each range hold all values from 0 to the largest?
-fn are_whole(ranges: &[Range<u32>], tops: &[u32]) -> bool
-    requires { ⌜ length (now ranges) ≡ length (now tops) ⌝ }
-    ensures { λ r. ⌜ r ≡ whole (now (tops .entry)) (now (ranges .entry)) ⌝ }
+// Do the ranges behind the index hold every value of their fields?
+fn are_whole_behind(ranges: &[Range<u32>], largest: &[u32], index: usize) -> bool
+    requires { ⌜ index < length (now ranges) ⌝ ∗ ⌜ length (now ranges) ≡ length (now largest) ⌝ }
+    ensures { λ r. ⌜ r ≡ all-whole (drop (suc index) (now (largest .entry))) (drop (suc index) (now (ranges .entry))) ⌝ }
 {
-    for i in 0..ranges.len() {
-        if ranges[i].low != 0 || ranges[i].high < tops[i] {
+    for i in index + 1..ranges.len() {
+        if !is_whole(ranges[i], largest[i]) {
             return false;
         }
     }
     true
+}
+
+// Does the range hold every value up to the largest?
+fn is_whole(range: Range<u32>, largest: u32) -> bool
+    ensures { λ r. ⌜ r ≡ whole largest range ⌝ }
+{
+    range.low == 0 && range.high >= largest
 }
