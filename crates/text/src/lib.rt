@@ -1,0 +1,3 @@
+// Rule text.
+mod numbers;
+mod pieces;
