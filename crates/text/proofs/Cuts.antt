@@ -3,11 +3,12 @@ use mathlib.Core.Path.{_≡_, refl, sym, ap, _∙_}
 use mathlib.Core.Bool.{Bool, true, false, cond}
 use mathlib.Core.List.{List, [], _∷_, _++_}
 use Prim.Native.Nat.{ℕ, suc, _+_, _<_, _≤_}
+use native.Mathlib.Omega.{arith}
 use lib.Dec.{eqb}
 use lib.ListN.{length, take, drop, getD}
 use Rattle.std.proofs.shelf.Lists.{at-drop-more, at-drop-all, append-assoc, append-nil, take-more, take-all}
 use Rattle.std.proofs.shelf.Tests.{eq-eqb, ne-eqb}
-use Rattle.text.specs.Pieces.{pieces, longer}
+use Rattle.text.specs.Pieces.{pieces, longer, extent}
 
 -- bytes before the first piece
 abbrev pub onto : List ℕ → List (List ℕ) → List (List ℕ)
@@ -41,3 +42,17 @@ module _ (sep : ℕ) (text : List ℕ) (i : ℕ) where
   pub byte-end : length text ≤ i → onto (take i text) (pieces sep (drop i text)) ≡ text ∷ []
   unfolding pieces
   byte-end past = ap (onto (take i text)) (at-drop-all (pieces sep) text i past) ∙ ap (λ xs. xs ∷ []) (append-nil (take i text) ∙ take-all i text past)
+
+-- pieces with a separator behind each are as long as the text with one more
+pub extent-pieces : (sep : ℕ) (t : List ℕ) → extent (pieces sep t) ≡ length t + 1
+unfolding pieces
+extent-pieces sep [] = omega arith
+extent-pieces sep (b ∷ bs) = at-byte (eqb b sep) (pieces sep bs) (extent-pieces sep bs)
+  where
+    long : (ps : List (List ℕ)) → extent ps ≡ length bs + 1 → extent (longer b ps) ≡ length bs + 1 + 1
+    long [] e = absurd (omega arith)
+    long (p ∷ ps) e = omega arith
+
+    at-byte : (x : Bool) (ps : List (List ℕ)) → extent ps ≡ length bs + 1 → extent (cond x ([] ∷ ps) (longer b ps)) ≡ length (b ∷ bs) + 1
+    at-byte true ps e = omega arith
+    at-byte false ps e = omega (arith, long ps e)

@@ -1,2 +1,5 @@
 pub mod Pieces
 pub mod Numbers
+pub mod Tokens
+pub mod Faults
+pub mod Ranges

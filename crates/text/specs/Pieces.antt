@@ -1,7 +1,8 @@
 -- A text cut at a byte. Cited by src/pieces.rt. Assumes nothing.
 use mathlib.Core.Bool.{Bool, cond}
 use mathlib.Core.List.{List, [], _∷_}
-use Prim.Native.Nat.{ℕ}
+use Prim.Native.Nat.{ℕ, _+_}
+use lib.ListN.{length}
 use denote.Ref.{RefT}
 use lib.Dec.{eqb}
 use Rattle.std.specs.declared.option.Option.{Option}
@@ -25,3 +26,8 @@ pieces-of sep (Some rest) = pieces sep (rest .now)
 
 abbrev pub left : Pieces → List (List ℕ)
 left s = pieces-of (s .separator) (s .rest)
+
+-- how many bytes pieces take with a separator behind each
+abbrev pub extent : List (List ℕ) → ℕ
+extent [] = 0
+extent (p ∷ ps) = length p + 1 + extent ps
