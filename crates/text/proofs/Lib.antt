@@ -1,3 +1,5 @@
 pub mod Cuts
 pub mod Values
 pub mod Spans
+pub mod Lettered
+pub mod Counted

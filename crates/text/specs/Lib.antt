@@ -3,3 +3,5 @@ pub mod Numbers
 pub mod Tokens
 pub mod Faults
 pub mod Ranges
+pub mod Letters
+pub mod Words
