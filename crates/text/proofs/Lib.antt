@@ -3,3 +3,4 @@ pub mod Values
 pub mod Spans
 pub mod Lettered
 pub mod Counted
+pub mod Placed

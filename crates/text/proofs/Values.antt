@@ -3,6 +3,7 @@ use mathlib.Core.Path.{_≡_, refl, sym, ap, _∙_}
 use mathlib.Core.Bool.{Bool, true, false, cond}
 use mathlib.Core.List.{List, [], _∷_}
 use Prim.Native.Nat.{ℕ, zero, suc, _+_, _-_, _*_, _^_, _<_, _≤_}
+use native.Mathlib.Nat.{pow-zero, pow-succ', mul-assoc, mul-le-mul-right}
 use native.Mathlib.Omega.{arith}
 use lib.Dec.{leb}
 use lib.ListN.{length, drop, getD}
@@ -11,7 +12,8 @@ use Rattle.std.proofs.shelf.Tests.{le-leb, lt-leb, cond-true, cond-false}
 use Rattle.std.proofs.shelf.Ways.{tells}
 use Rattle.std.specs.declared.option.Option.{Option}
 use Rattle.std.specs.declared.option.Option.the-variants.{Some, None}
-use Rattle.text.specs.Numbers.{digit-of, value-from, at-most, number-of, plain, bytes-from}
+use Rattle.text.specs.Pieces.{pieces}
+use Rattle.text.specs.Numbers.{digit-of, value-from, at-most, number-of, plain, bytes-from, address-of}
 
 -- what is read from a digit on
 abbrev after : Option ℕ → ℕ → List ℕ → Option ℕ
@@ -102,3 +104,25 @@ room (suc zero) n b h k l = (omega arith, omega arith)
 room (suc (suc zero)) n b h k l = (omega arith, omega arith)
 room (suc (suc (suc zero))) n b h k l = (omega arith, omega arith)
 room (suc (suc (suc (suc i)))) n b h k l = absurd (omega arith)
+
+-- so many bytes behind n write a number below that many times n and one more
+bytes-below : (k n m : ℕ) (ws : List (List ℕ)) → Some m ≡ bytes-from k n ws → m < (n + 1) * 256 ^ k
+unfolding bytes-from
+bytes-below zero n m [] e = let same : m ≡ n = cc in omega (arith, pow-zero 256)
+bytes-below zero n m (w ∷ ws) e = let z : _≡_ {A = ℕ} 0 1 = cc in omega arith
+bytes-below (suc k) n m [] e = let z : _≡_ {A = ℕ} 0 1 = cc in omega arith
+bytes-below (suc k) n m (w ∷ ws) e = at-byte (number-of 255 w) refl e (λ b. bytes-below k (n * 256 + b) m ws)
+  where
+    at-byte : (r : Option ℕ) → r ≡ number-of 255 w → Some m ≡ next r k n ws
+        → ((b : ℕ) → Some m ≡ bytes-from k (n * 256 + b) ws → m < (n * 256 + b + 1) * 256 ^ k) → m < (n + 1) * 256 ^ suc k
+    at-byte None is e later = let z : _≡_ {A = ℕ} 0 1 = cc in omega arith
+    at-byte (Some b) is e later =
+        let below : m < (n * 256 + b + 1) * 256 ^ k = later b e in
+        let most : b ≤ 255 = number-top 255 b w is in
+        let step : n * 256 + b + 1 ≤ (n + 1) * 256 = omega arith in
+        omega (arith, mul-le-mul-right (256 ^ k) step, pow-succ' 256 k, mul-assoc (n + 1) 256 (256 ^ k), ap (λ x. (n + 1) * x) (pow-succ' 256 k))
+
+-- an address has 32 bits
+pub address-top : (n : ℕ) (word : List ℕ) → Some n ≡ address-of word → n ≤ 4294967295
+unfolding address-of
+address-top n word e = let below = bytes-below 4 0 n (pieces 46 word) e in omega arith

@@ -5,3 +5,4 @@ pub mod Faults
 pub mod Ranges
 pub mod Letters
 pub mod Words
+pub mod Fields

@@ -37,12 +37,14 @@ ends-of value (v ∷ w ∷ []) = elim (value v) [
 ]
 ends-of value (v ∷ w ∷ u ∷ us) = None
 
--- the range that a word's ends make, or the fault of the word that begins in this column
+-- the range that ends make, or the fault of their word, which begins in this column
+abbrev pub judged : ℕ → Option (Range ℕ) → Result (Range ℕ) WordFault
+judged column None = Err (Number column)
+judged column (Some range) = cond (reversed range) (Err (Reversed column)) (Ok range)
+
+-- the range of a word other than `*`
 abbrev pub written-range : Field → ℕ → List ℕ → Result (Range ℕ) WordFault
-written-range field column word = elim (ends-of (value-of field) (pieces 45 word)) [
-  | None ↦ Err (Number column)
-  | Some range ↦ cond (reversed range) (Err (Reversed column)) (Ok range)
-]
+written-range field column word = judged column (ends-of (value-of field) (pieces 45 word))
 
 -- the range of a range word: for `*` every value of the field
 unfoldable pub range-of : Field → ℕ → List ℕ → Result (Range ℕ) WordFault

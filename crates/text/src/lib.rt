@@ -5,5 +5,6 @@ mod lexer;
 mod numbers;
 mod pieces;
 mod ranges;
+mod regions;
 mod tokens;
 mod words;
