@@ -17,6 +17,7 @@ use Rattle.packet.specs.Regions.{clamped}
 use Rattle.text.specs.declared.faults.WordFault.{WordFault}
 use Rattle.text.specs.declared.faults.LineFault.{LineFault}
 use Rattle.text.specs.declared.faults.LineFault.the-variants.{Word, Words}
+use Rattle.text.specs.Steps.{then, carried}
 use Rattle.text.specs.Ranges.{value-of, range-of}
 use Rattle.text.specs.Fields.{fields, ranges-from}
 use Rattle.text.proofs.Spans.{Sound, clamped-same}
@@ -27,16 +28,13 @@ before rs (Ok more) = Ok (rs ++ more)
 before rs (Err fault) = Err fault
 
 before-more : (rs : List (Range ℕ)) (r : Range ℕ) (read : Result (List (Range ℕ)) LineFault)
-    → before rs (elim read [ Err fault ↦ Err fault | Ok ranges ↦ Ok (r ∷ ranges) ]) ≡ before (rs ++ r ∷ []) read
+    → before rs (then read (λ ranges. Ok (r ∷ ranges))) ≡ before (rs ++ r ∷ []) read
 before-more rs r (Err fault) = refl
 before-more rs r (Ok ranges) = ap Ok (sym (append-assoc rs (r ∷ []) ranges))
 
 -- what is read from a range on
 abbrev after-range : Result (Range ℕ) WordFault → List Field → ℕ → List (List ℕ) → Result (List (Range ℕ)) LineFault
-after-range read more column ws = elim read [
-  | Err fault ↦ Err (Word fault)
-  | Ok range ↦ elim (ranges-from more column ws) [ Err fault ↦ Err fault | Ok ranges ↦ Ok (range ∷ ranges) ]
-]
+after-range read more column ws = then (carried Word read) (λ range. then (ranges-from more column ws) (λ ranges. Ok (range ∷ ranges)))
 
 field-here : (field : Field) → drop (place field) fields ≡ field ∷ drop (place field + 1) fields
 field-here Source = refl

@@ -11,6 +11,7 @@ use Rattle.packet.specs.declared.region.Region.{Region}
 use Rattle.packet.specs.Regions.{range-at}
 use Rattle.text.specs.declared.faults.LineFault.{LineFault}
 use Rattle.text.specs.declared.faults.LineFault.the-variants.{Word, Words}
+use Rattle.text.specs.Steps.{then, carried}
 use Rattle.text.specs.Ranges.{range-of}
 
 -- the fields of a packet, in their order
@@ -21,19 +22,13 @@ fields = Source ∷ SourcePort ∷ Destination ∷ DestinationPort ∷ Protocol 
 unfoldable pub ranges-from : List Field → ℕ → List (List ℕ) → Result (List (Range ℕ)) LineFault
 ranges-from [] column words = Ok []
 ranges-from (field ∷ more) column [] = Err (Words column)
-ranges-from (field ∷ more) column (w ∷ ws) = elim (range-of field column w) [
-  | Err fault ↦ Err (Word fault)
-  | Ok range ↦ elim (ranges-from more (column + length w + 1) ws) [ Err fault ↦ Err fault | Ok ranges ↦ Ok (range ∷ ranges) ]
-]
+ranges-from (field ∷ more) column (w ∷ ws) =
+    then (carried Word (range-of field column w)) (λ range. then (ranges-from more (column + length w + 1) ws) (λ ranges. Ok (range ∷ ranges)))
 
 -- the region of these ranges
 abbrev pub region-of : List (Range ℕ) → Region
 region-of rs = record { source = range-at rs 0; «source_port» = range-at rs 1; destination = range-at rs 2; «destination_port» = range-at rs 3; protocol = range-at rs 4 }
 
-abbrev pub as-region : Result (List (Range ℕ)) LineFault → Result Region LineFault
-as-region (Ok ranges) = Ok (region-of ranges)
-as-region (Err fault) = Err fault
-
 -- the region that the words from this column on write
 abbrev pub region-from : ℕ → List (List ℕ) → Result Region LineFault
-region-from column words = as-region (ranges-from fields column words)
+region-from column words = then (ranges-from fields column words) (λ ranges. Ok (region-of ranges))

@@ -2,6 +2,7 @@
 pub mod faults;
 mod letters;
 mod lexer;
+mod line;
 mod numbers;
 mod pieces;
 mod ranges;

@@ -1,17 +1,25 @@
 use mathlib.Core.Path.{refl, sym, ap, _∙_}
-use Prim.Native.Nat.{_+_}
-use mathlib.Core.List.{_++_, _∷_, []}
+use Prim.Native.Nat.{ℕ, _+_}
+use mathlib.Core.List.{List}
 use native.Mathlib.Omega.{arith}
 use lib.ListN.{take, drop}
 use Rattle.std.proofs.shelf.Results.{err-from-errBy}
 use Rattle.std.proofs.shelf.Lists.{append-nil, take-all}
+use Rattle.std.specs.declared.result.Result.{Result}
 use Rattle.std.specs.declared.result.Result.the-variants.{Ok}
+use Rattle.packet.specs.declared.range.Range.{Range}
+use Rattle.packet.specs.declared.region.Region.{Region}
 use Rattle.packet.specs.Regions.{ranges}
+use Rattle.text.specs.declared.faults.LineFault.{LineFault}
 use Rattle.text.specs.Pieces.{left}
-use Rattle.text.specs.Fields.{fields, ranges-from, as-region, region-of}
+use Rattle.text.specs.Steps.{then}
+use Rattle.text.specs.Fields.{fields, ranges-from, region-of}
 use Rattle.text.proofs.Spans.{range-sound}
 use Rattle.text.proofs.Placed.{before, ranges-few, ranges-fault, ranges-more, ranges-end, placed, field-within}
 use Rattle.text.proofs.regions.region.Needs as need
+
+abbrev as-region : Result (List (Range ℕ)) LineFault → Result Region LineFault
+as-region read = then read (λ ranges. Ok (region-of ranges))
 
 pub returns-in-rest-next : need.returns-in-rest-next
 returns-in-rest-next c =
