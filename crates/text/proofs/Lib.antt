@@ -4,3 +4,5 @@ pub mod Spans
 pub mod Lettered
 pub mod Counted
 pub mod Placed
+pub mod Said
+pub mod Lined

@@ -8,3 +8,4 @@ pub mod Letters
 pub mod Words
 pub mod Fields
 pub mod Lines
+pub mod Readings

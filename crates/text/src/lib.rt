@@ -6,6 +6,7 @@ mod line;
 mod numbers;
 mod pieces;
 mod ranges;
+pub mod reading;
 mod regions;
 mod tokens;
 mod words;
