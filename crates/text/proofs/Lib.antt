@@ -6,3 +6,4 @@ pub mod Counted
 pub mod Placed
 pub mod Said
 pub mod Lined
+pub mod Appends

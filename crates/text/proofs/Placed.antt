@@ -50,9 +50,12 @@ field-within Destination = omega arith
 field-within DestinationPort = omega arith
 field-within Protocol = omega arith
 
+pub field-at : (field : Field) (i : ℕ) → place field ≡ i → drop i fields ≡ field ∷ drop (i + 1) fields
+field-at field i is = ap (λ k. drop k fields) (sym is) ∙ field-here field ∙ ap (λ k. field ∷ drop (k + 1) fields) is
+
 module _ (field : Field) (i : ℕ) (is : place field ≡ i) (column : ℕ) where
   here : drop i fields ≡ field ∷ drop (i + 1) fields
-  here = ap (λ k. drop k fields) (sym is) ∙ field-here field ∙ ap (λ k. field ∷ drop (k + 1) fields) is
+  here = field-at field i is
 
   pub ranges-few : ranges-from (drop i fields) column [] ≡ Err (Words column)
   unfolding ranges-from

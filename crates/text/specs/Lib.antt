@@ -9,3 +9,4 @@ pub mod Words
 pub mod Fields
 pub mod Lines
 pub mod Readings
+pub mod Printing

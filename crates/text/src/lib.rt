@@ -5,6 +5,7 @@ mod lexer;
 mod line;
 mod numbers;
 mod pieces;
+pub mod print;
 mod ranges;
 pub mod reading;
 mod regions;
