@@ -1,10 +1,12 @@
 -- What holds of the values of every packet. Assumes nothing.
 use mathlib.Core.Path.{_≡_, refl, ap}
 use mathlib.Core.List.{List, [], _∷_}
-use Prim.Native.Nat.{ℕ, zero, suc, _≤_}
+use Prim.Native.Nat.{ℕ, zero, suc, _≤_, _<_}
 use native.Mathlib.Omega.{arith}
 use lib.ListN.{length, getD}
-use Rattle.packet.specs.Packets.{Within}
+use Rattle.packet.specs.declared.field.Field.{Field}
+use Rattle.packet.specs.declared.field.Field.the-variants.{Source, SourcePort, Destination, DestinationPort, Protocol}
+use Rattle.packet.specs.Packets.{Within, tops, place}
 
 -- a packet has a value for each field
 pub long : (ts p : List ℕ) → Within ts p → length p ≡ length ts
@@ -20,3 +22,11 @@ at-most [] (v ∷ p) f w = absurd w
 at-most (t ∷ ts) [] f w = absurd w
 at-most (t ∷ ts) (v ∷ p) zero w = w .0
 at-most (t ∷ ts) (v ∷ p) (suc f) w = at-most ts p f (w .1)
+
+-- every field has its place among the values
+pub place-few : (field : Field) → place field < length tops
+place-few Source = omega arith
+place-few SourcePort = omega arith
+place-few Destination = omega arith
+place-few DestinationPort = omega arith
+place-few Protocol = omega arith

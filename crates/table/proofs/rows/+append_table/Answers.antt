@@ -8,6 +8,7 @@ use Rattle.std.specs.Holes.{between}
 use Rattle.std.specs.Orderings.{Decides}
 use Rattle.std.specs.Of.Vec.{vec-items, vec-len}
 use Rattle.std.proofs.shelf.Lists.{map-push, length-map, length-take, take-at, take-map}
+use Rattle.packet.proofs.Values.{place-few}
 use Rattle.packet.specs.Packets.{values, tops, Within}
 use Rattle.theory.specs.Tables as tables
 use Rattle.table.specs.declared.row.Row.{Row}
@@ -47,7 +48,7 @@ loop-high-holds g t c =
     let was = vec-items (c .args .rows .now) in
     let n : length (view was) ≡ c .len-base .result = omega (arith, length-map was plain, c .args .rows .now .ok, c .len-base .ensures) in
     let w : Within tops (values q) = search needs in
-    let edge = g .S·Source·met .sound _ _ _ _ w (c .edge-high .ensures) in (
+    let edge = g .S·Source·met .sound _ _ _ _ (place-few (c .in-Some .here)) w (c .edge-high .ensures) in (
       first-step m (c .in-Some .here) (c .args .field) (c .in-Some .ensures tt) (c .args .at) q (omega arith, c .with-first .ensures) (c .edge-high .result) edge (view was) _ _ (u .rows) n,
       omega (arith, edge .most, c .top-top .ensures),
       omega arith,
@@ -84,7 +85,7 @@ loop-high-less g t c =
     let m = g .S·Source .meaning (c .args .source .now) in
     let q = c .with-next .result in
     let w : Within tops (values q) = search needs in
-    let edge = g .S·Source·met .sound _ _ _ _ w (c .edge-high-in-loop-high .ensures) in
+    let edge = g .S·Source·met .sound _ _ _ _ (place-few (c .in-Some .here)) w (c .edge-high-in-loop-high .ensures) in
     omega (
       arith,
       c .loop-high-test .taken,
@@ -100,7 +101,7 @@ loop-high-again g t c =
     let n : length (view now) ≡ c .len-end .result = omega (arith, length-map now plain, c .loop-high .rows .ok, c .len-end .ensures) in
     let d = subst (λ (x : List Row). Decides (c .is-repeated .result) (between (c .loop-high .start) (c .len-end .result) (view x) ≡ drop (c .len-end .result) (view x))) (c .deref .ensures .value) (c .is-repeated .ensures) in
     let w : Within tops (values q) = search needs in
-    let edge = g .S·Source·met .sound _ _ _ _ w (c .edge-high-in-loop-high .ensures) in
+    let edge = g .S·Source·met .sound _ _ _ _ (place-few (c .in-Some .here)) w (c .edge-high-in-loop-high .ensures) in
     let two = next-step m (c .in-Some .here) (c .args .field) (c .in-Some .ensures tt) (c .args .at) _ (view now) _ _ _ (c .loop-high .inv .0)
     q (omega (arith, c .loop-high-test .taken, c .top-top .ensures), c .with-next .ensures) (view all) (c .in-Continue-append-table-2 .ensures tt .rows) _ n _ d (c .edge-high-in-loop-high .result) edge in
     let few = c .in-Continue-append-table-2 .ensures tt .few in
