@@ -1,7 +1,7 @@
 -- The edits of a list keep its rules forward. Assumes nothing.
 use mathlib.Core.Path.{_≡_, sym, subst}
 use mathlib.Core.Bool.{Bool, true, false, cond}
-use mathlib.Core.List.{List, _∷_, _++_}
+use mathlib.Core.List.{List, _∷_}
 use Prim.Native.Nat.{ℕ, zero-le, suc}
 use lib.ListN.{take, drop, set}
 use Rattle.std.specs.shelf.Lists.{All, inserted, removed}
