@@ -1,0 +1,8 @@
+//! An independent implementation of the rules in `docs/RULES.md`.
+//!
+//! It exists so that the proved tool can be tested against something that shares no code and no
+//! algorithm with it. Nothing here is proved; the unit tests hold it against brute force.
+
+#![forbid(unsafe_code)]
+
+pub mod model;
