@@ -5,5 +5,7 @@
 
 #![forbid(unsafe_code)]
 
+pub mod material;
 pub mod model;
+pub mod rng;
 pub mod text;

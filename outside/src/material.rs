@@ -1,0 +1,232 @@
+//! Random material: rules of several shapes, books, layered sources, packets, texts and damage.
+
+use crate::model::{Blend, Book, Decision, Kind, Packet, Range, Region, Rule, Source, FIELDS, TOPS};
+use crate::rng::Rng;
+use crate::text::print_line;
+
+/// What random rules look like.
+#[derive(Clone, Copy, Debug, PartialEq, Eq)]
+pub enum Shape {
+    /// As a list for a real network would be written.
+    Real,
+    /// Each range whole, one value or any.
+    Boxes,
+    /// Each region inside the one before it or around it.
+    Nested,
+    /// Ranges with ends among very few values, so that many of them coincide or abut.
+    Few,
+    /// Only the last two fields are narrowed.
+    Ports,
+}
+
+pub const SHAPES: [Shape; 5] = [Shape::Real, Shape::Boxes, Shape::Nested, Shape::Few, Shape::Ports];
+
+pub fn kind(rng: &mut Rng) -> Kind {
+    rng.pick(&[Kind::Verdicts, Kind::Marks])
+}
+
+/// A decision that is not silent. Few marks appear, so that decisions coincide.
+pub fn decision(rng: &mut Rng, kind: Kind) -> Decision {
+    match kind {
+        Kind::Verdicts => rng.pick(&[0, 2]),
+        Kind::Marks => rng.pick(&[1, 1, 2, 3, 4, 9, 15]),
+    }
+}
+
+/// Any number from 0 to the field's largest, small, large and middling ones alike.
+pub fn value(rng: &mut Rng, field: usize) -> u32 {
+    let top = TOPS[field];
+    match rng.below(4) {
+        0 => rng.between(0, 3),
+        1 => top - rng.between(0, 3),
+        _ => rng.between(0, top),
+    }
+}
+
+fn ordered(a: u32, b: u32) -> Range {
+    Range::new(a.min(b), a.max(b))
+}
+
+fn any_range(rng: &mut Rng, field: usize) -> Range {
+    match rng.below(4) {
+        0 => Range::whole(field),
+        1 => Range::one(value(rng, field)),
+        _ => ordered(value(rng, field), value(rng, field)),
+    }
+}
+
+fn few_range(rng: &mut Rng, field: usize) -> Range {
+    if rng.once_in(3) {
+        return Range::whole(field);
+    }
+    let top = TOPS[field];
+    let ends = [0, 1, 2, 3, top - 1, top];
+    ordered(rng.pick(&ends), rng.pick(&ends))
+}
+
+fn address_range(rng: &mut Rng) -> Range {
+    let net = 0x0a00_0000 | rng.between(0, 2) << 16 | rng.between(0, 3) << 8;
+    match rng.below(5) {
+        0 | 1 => Range::new(net, net | 255),
+        2 | 3 => Range::one(net | rng.between(1, 12)),
+        _ => Range::whole(0),
+    }
+}
+
+fn real_region(rng: &mut Rng) -> Region {
+    let source_port = if rng.once_in(6) { Range::new(1024, 65_535) } else { Range::whole(1) };
+    let port = match rng.below(5) {
+        0 => Range::whole(3),
+        1 => Range::new(5000, 5999),
+        2 => Range::new(17, 80),
+        _ => Range::one(rng.pick(&[22, 25, 53, 80, 443, 502, 5514])),
+    };
+    let protocol = if rng.once_in(4) { Range::whole(4) } else { Range::one(rng.pick(&[1, 6, 6, 6, 17, 17])) };
+    Region([address_range(rng), source_port, address_range(rng), port, protocol])
+}
+
+/// A region inside the given one, narrower on one or two fields.
+fn inside(rng: &mut Rng, mut outer: Region) -> Region {
+    for _ in 0..=rng.below(2) {
+        let field = rng.below(FIELDS);
+        let Range { low, high } = outer.0[field];
+        // Sometimes only one end moves, and by little.
+        outer.0[field] = match rng.below(3) {
+            0 if low < high => Range::new(low + 1, high),
+            1 if low < high => Range::new(low, high - 1),
+            _ => ordered(rng.between(low, high), rng.between(low, high)),
+        };
+    }
+    outer
+}
+
+fn ports_region(rng: &mut Rng) -> Region {
+    let port = ordered(rng.between(10, 90), rng.between(10, 90));
+    let protocol = if rng.once_in(2) { Range::whole(4) } else { ordered(rng.between(0, 20), rng.between(0, 20)) };
+    Region::whole().with(3, port).with(4, protocol)
+}
+
+pub fn region(rng: &mut Rng, shape: Shape) -> Region {
+    match shape {
+        Shape::Real => real_region(rng),
+        Shape::Boxes => Region(std::array::from_fn(|field| any_range(rng, field))),
+        Shape::Nested => inside(rng, Region::whole()),
+        Shape::Few => Region(std::array::from_fn(|field| few_range(rng, field))),
+        Shape::Ports => ports_region(rng),
+    }
+}
+
+pub fn rules(rng: &mut Rng, kind: Kind, shape: Shape, count: usize) -> Vec<Rule> {
+    let mut regions: Vec<Region> = Vec::with_capacity(count);
+    for _ in 0..count {
+        let next = match (shape, regions.last()) {
+            (Shape::Nested, Some(&last)) => inside(rng, last),
+            _ => region(rng, shape),
+        };
+        regions.push(next);
+    }
+    // Nested regions matter only when the inner ones come first.
+    if shape == Shape::Nested && !rng.once_in(4) {
+        regions.reverse();
+    }
+    regions.into_iter().map(|region| Rule::new(region, decision(rng, kind))).collect()
+}
+
+pub fn book(rng: &mut Rng, kind: Kind, shape: Shape, count: usize) -> Book {
+    let mut book = Book::open(kind);
+    for rule in rules(rng, kind, shape, count) {
+        book.push(rule).expect("the material is good and not more than 64 rules");
+    }
+    book
+}
+
+/// A source with the given number of layers over books of up to `rules` rules each.
+pub fn source(rng: &mut Rng, kind: Kind, shape: Shape, rules: usize, layers: usize) -> Source {
+    if layers == 0 {
+        let count = rng.below(rules + 1);
+        return book(rng, kind, shape, count).into();
+    }
+    if rng.once_in(3) {
+        let inner = source(rng, kind, shape, rules, layers - 1);
+        return Source::part(region(rng, shape), inner).expect("the material has no reversed range");
+    }
+    let left = rng.below(layers);
+    let blend = rng.pick(&[Blend::Over, Blend::Meet, Blend::Join]);
+    let first = source(rng, kind, shape, rules, left);
+    let second = source(rng, kind, shape, rules, layers - 1 - left);
+    Source::pair(blend, first, second)
+}
+
+/// A packet at, just before or just behind the ends of the source's ranges, or anywhere.
+pub fn packet(rng: &mut Rng, regions: &[Region]) -> Packet {
+    std::array::from_fn(|field| {
+        if regions.is_empty() || rng.once_in(5) {
+            return value(rng, field);
+        }
+        let Range { low, high } = rng.pick(regions).0[field];
+        match rng.below(4) {
+            0 => low.saturating_sub(1),
+            1 => low,
+            2 => high,
+            _ => high.saturating_add(1).min(TOPS[field]),
+        }
+    })
+}
+
+/// Lines of rules, with or without comments and empty lines between them and with or without the last line feed.
+pub fn text(rng: &mut Rng, kind: Kind, rules: &[Rule]) -> Vec<u8> {
+    let skipped = ["", "#", "# a note", "# allow * * * * *", "#deny all ~!"];
+    let airy = rng.once_in(2);
+    let mut text = String::new();
+    for rule in rules {
+        while airy && rng.once_in(5) {
+            text.push_str(rng.pick(&skipped));
+            text.push('\n');
+        }
+        text.push_str(&print_line(kind, rule));
+        text.push('\n');
+    }
+    if rng.once_in(3) {
+        text.pop();
+    }
+    text.into_bytes()
+}
+
+/// Changes one to three bytes of a text: overwritten, taken out, doubled, or put in.
+pub fn spoil(rng: &mut Rng, text: &mut Vec<u8>) {
+    let telling = b" \n*-.0#+9a\r\t\0\x7f\x80";
+    for _ in 0..=rng.below(3) {
+        if text.is_empty() {
+            text.push(rng.pick(telling));
+            continue;
+        }
+        let place = rng.below(text.len());
+        match rng.below(5) {
+            0 => text[place] = rng.pick(telling),
+            1 => text[place] = rng.below(256) as u8,
+            2 => drop(text.remove(place)),
+            3 => text.insert(place, text[place]),
+            _ => text.insert(place, rng.pick(telling)),
+        }
+    }
+}
+
+#[cfg(test)]
+mod tests {
+    use super::*;
+    use crate::text::read;
+
+    #[test]
+    fn texts_are_read_back_as_their_rules() {
+        let mut rng = Rng::new(11);
+        for round in 0..300 {
+            let kind = kind(&mut rng);
+            let shape = SHAPES[round % SHAPES.len()];
+            let rules = rules(&mut rng, kind, shape, round % 20);
+            let text = text(&mut rng, kind, &rules);
+            let placed = read(kind, &text).finish().expect("the material is good");
+            let back: Vec<Rule> = placed.iter().map(|placed| placed.rule).collect();
+            assert_eq!(back, rules);
+        }
+    }
+}
