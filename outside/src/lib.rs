@@ -5,7 +5,10 @@
 
 #![forbid(unsafe_code)]
 
+#[cfg(test)]
+mod brute;
 pub mod material;
 pub mod model;
 pub mod rng;
+pub mod table;
 pub mod text;

@@ -140,6 +140,37 @@ pub fn book(rng: &mut Rng, kind: Kind, shape: Shape, count: usize) -> Book {
     book
 }
 
+/// A book whose table has exactly so many rows, from 1 to 1,220.
+pub fn with_rows(rng: &mut Rng, kind: Kind, rows: usize) -> Book {
+    let mut book = Book::open(kind);
+    let mut push = |region, decision| book.push(Rule::new(region, decision)).expect("at most 64 rules");
+    // A stair: rule i begins at its own source address and has a protocol of its own. The addresses before
+    // the stair have one row, those at its i-th step 2i + 1: with n steps these are (n + 1) squared.
+    let steps = (0..).find(|n| (n + 2) * (n + 2) > rows).expect("some square is above");
+    let start = rng.between(1000, 2_000_000_000);
+    for i in 0..steps as u32 {
+        let region = Region::whole().with(0, Range::new(start + i, u32::MAX)).with(4, Range::one(2 * i + 1));
+        push(region, decision(rng, kind));
+    }
+    // One address before the stair brings the rows that are wanting. In the middle it parts the addresses
+    // before the stair in two, which is one row more; with n protocols apart it has 2n + 1 rows of its own,
+    // or 2n if the first of them is 0.
+    let wanting = (rows - (steps + 1) * (steps + 1)) as u32;
+    let address = |value| Region::whole().with(0, Range::one(value));
+    match wanting {
+        0 => {}
+        1 => push(address(0), decision(rng, kind)),
+        2 => push(address(500), decision(rng, kind)),
+        _ => {
+            let first = 1 - wanting % 2;
+            for i in 0..(wanting - 1) / 2 {
+                push(address(500).with(4, Range::one(first + 2 * i)), decision(rng, kind));
+            }
+        }
+    }
+    book
+}
+
 /// A source with the given number of layers over books of up to `rules` rules each.
 pub fn source(rng: &mut Rng, kind: Kind, shape: Shape, rules: usize, layers: usize) -> Source {
     if layers == 0 {
