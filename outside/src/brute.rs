@@ -2,7 +2,7 @@
 
 use std::collections::BTreeSet;
 
-use crate::model::{Decision, Packet, Range, Region, Row, Source, FIELDS, TOPS};
+use crate::model::{Decision, Kind, Packet, Range, Region, Row, Source, FIELDS, TOPS};
 
 /// For each field, the values at which some range starts or has just ended, and 0. The sources decide all
 /// packets alike that lie between the same two of them.
@@ -83,4 +83,44 @@ fn is_nested_from(field: usize, regions: &[Region]) -> bool {
         next = (high < TOPS[field]).then(|| high + 1);
     }
     next.is_none() && !regions.is_empty()
+}
+
+/// Whether rows begin some nested list: they do exactly if filling up the last range of each field, from the
+/// last field to the first, makes a nested list of them.
+fn begin_nested(rows: &[Row]) -> bool {
+    let mut rows = rows.to_vec();
+    for field in (0..FIELDS).rev() {
+        let mut region = rows.last().map_or(Region::whole(), |row| row.region);
+        let Range { low, high } = region.0[field];
+        if high < TOPS[field] && low <= high {
+            region.0[field] = Range::new(high + 1, TOPS[field]);
+            (field + 1..FIELDS).for_each(|later| region.0[later] = Range::whole(later));
+            rows.push(Row::new(region, 0));
+        }
+    }
+    is_nested(&rows)
+}
+
+/// The first row where the rows so far begin no nested list, or the count of rows if the list ends short.
+pub fn first_not_nested(rows: &[Row]) -> Option<usize> {
+    let bad = (0..rows.len()).find(|&last| !begin_nested(&rows[..=last]));
+    bad.or((!is_nested(rows)).then_some(rows.len()))
+}
+
+/// The lowest row of a nested list that starts a range alike its left neighbour: all packets that differ only
+/// on that field, one in each of the two ranges, get equal decisions.
+pub fn first_alike(kind: Kind, rows: &[Row]) -> Option<usize> {
+    let source = Source::Table(kind, rows.to_vec());
+    let grid = grid(&[&source]);
+    (1..rows.len()).find(|&place| {
+        let (left, right) = (&rows[place - 1].region, &rows[place].region);
+        let field = (0..FIELDS).find(|&field| left.0[field] != right.0[field]).expect("no two have one region");
+        let mut near = grid.clone();
+        (0..=field).for_each(|earlier| near[earlier] = vec![right.0[earlier].low]);
+        packets(&near).into_iter().all(|packet| {
+            let mut other = packet;
+            other[field] = left.0[field].low;
+            source.decide(&packet) == source.decide(&other)
+        })
+    })
 }

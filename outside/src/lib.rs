@@ -9,6 +9,7 @@
 mod brute;
 pub mod material;
 pub mod model;
+pub mod packed;
 pub mod rng;
 pub mod table;
 pub mod text;

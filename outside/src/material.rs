@@ -1,6 +1,6 @@
 //! Random material: rules of several shapes, books, layered sources, packets, texts and damage.
 
-use crate::model::{Blend, Book, Decision, Kind, Packet, Range, Region, Rule, Source, FIELDS, TOPS};
+use crate::model::{Blend, Book, Decision, Kind, Packet, Range, Region, Row, Rule, Source, FIELDS, TOPS};
 use crate::rng::Rng;
 use crate::text::print_line;
 
@@ -239,6 +239,58 @@ pub fn spoil(rng: &mut Rng, text: &mut Vec<u8>) {
             3 => text.insert(place, text[place]),
             _ => text.insert(place, rng.pick(telling)),
         }
+    }
+}
+
+/// A nested list of some rows with few decisions, mostly not reduced.
+pub fn nested_rows(rng: &mut Rng, kind: Kind) -> Vec<Row> {
+    let mut rows = Vec::new();
+    // How many fields are cut at all, so that some lists are wide and some deep.
+    let fields = 1 + rng.below(3);
+    let cut: Vec<usize> = (0..fields).map(|_| rng.below(FIELDS)).collect();
+    nest(rng, kind, &cut, 0, Region::whole(), &mut rows);
+    rows
+}
+
+fn nest(rng: &mut Rng, kind: Kind, cut: &[usize], field: usize, region: Region, rows: &mut Vec<Row>) {
+    if field == FIELDS {
+        let decisions = if kind == Kind::Marks { [0, 5, 5] } else { [1, 2, 2] };
+        rows.push(Row::new(region, rng.pick(&decisions)));
+        return;
+    }
+    let mut low = 0;
+    loop {
+        let last = !cut.contains(&field) || rng.once_in(2);
+        let high = if last { TOPS[field] } else { value(rng, field).max(low) };
+        nest(rng, kind, cut, field + 1, region.with(field, Range::new(low, high)), rows);
+        if high == TOPS[field] {
+            return;
+        }
+        low = high + 1;
+    }
+}
+
+/// Changes rows so that they are mostly no longer nested.
+pub fn disturb(rng: &mut Rng, rows: &mut Vec<Row>) {
+    let place = rng.below(rows.len());
+    match rng.below(6) {
+        0 => drop(rows.pop()),
+        1 => drop(rows.remove(place)),
+        2 => rows.insert(place, rows[place]),
+        3 => rows.swap(0, place),
+        _ => {
+            let field = rng.below(FIELDS);
+            let range = &mut rows[place].region.0[field];
+            let end = if rng.once_in(2) { &mut range.low } else { &mut range.high };
+            *end = match rng.below(3) {
+                0 => end.saturating_sub(1),
+                1 => end.saturating_add(1).min(TOPS[field]),
+                _ => value(rng, field),
+            };
+        }
+    }
+    if rows.is_empty() {
+        rows.push(Row::new(Region::whole().with(rng.below(FIELDS), Range::one(0)), 2));
     }
 }
 
