@@ -7,6 +7,7 @@
 
 #[cfg(test)]
 mod brute;
+pub mod compare;
 pub mod material;
 pub mod model;
 pub mod packed;
