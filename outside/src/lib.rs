@@ -7,10 +7,13 @@
 
 #[cfg(test)]
 mod brute;
+pub mod case;
 pub mod compare;
+pub mod lists;
 pub mod material;
 pub mod model;
 pub mod packed;
 pub mod rng;
 pub mod table;
 pub mod text;
+pub mod texts;

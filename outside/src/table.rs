@@ -249,16 +249,11 @@ mod tests {
     use super::*;
     use crate::brute;
     use crate::material::{self, SHAPES};
-    use crate::model::Book;
     use crate::rng::Rng;
     use crate::text;
 
     fn book(kind: Kind, lines: &str) -> Source {
-        let mut book = Book::open(kind);
-        for placed in text::read(kind, lines.as_bytes()).finish().unwrap() {
-            book.push(placed.rule).unwrap();
-        }
-        book.into()
+        text::read_book(kind, lines.as_bytes()).unwrap().into()
     }
 
     fn printed(source: &Source) -> Vec<String> {

@@ -2,7 +2,7 @@
 
 use std::fmt;
 
-use crate::model::{Kind, Packet, Range, Refusal, Region, Row, Rule, FIELDS, MAX_RULES, TOPS};
+use crate::model::{Book, Kind, Packet, Range, Refusal, Region, Row, Rule, FIELDS, MAX_RULES, TOPS};
 
 /// The most bytes a rule text has.
 pub const MAX_TEXT: usize = 16_384;
@@ -57,6 +57,15 @@ impl<'a> Reading<'a> {
             None => Ok(self.placed),
         }
     }
+}
+
+/// The book of a text.
+pub fn read_book(kind: Kind, text: &[u8]) -> Result<Book, Fault> {
+    let mut book = Book::open(kind);
+    for placed in read(kind, text).finish()? {
+        book.push(placed.rule).expect("the rules that were read are good and not more than 64");
+    }
+    Ok(book)
 }
 
 /// A fault within one line.
