@@ -5,8 +5,10 @@
 
 #![forbid(unsafe_code)]
 
+pub mod at_random;
 #[cfg(test)]
 mod brute;
+pub mod by_hand;
 pub mod case;
 pub mod compare;
 pub mod lists;
@@ -14,6 +16,7 @@ pub mod material;
 pub mod model;
 pub mod packed;
 pub mod rng;
+pub mod stream;
 pub mod table;
 pub mod text;
 pub mod texts;

@@ -158,7 +158,7 @@ fn split(line: &[u8]) -> Result<([&[u8]; WORDS], [usize; WORDS]), Flaw> {
 }
 
 /// The range that a word names, reversed or not; none if the word is malformed.
-fn read_range(field: usize, word: &[u8]) -> Option<Range> {
+pub fn read_range(field: usize, word: &[u8]) -> Option<Range> {
     if word == b"*" {
         return Some(Range::whole(field));
     }
