@@ -2,8 +2,8 @@
 
 use crate::case::{Case, Edit};
 use crate::material::{self, SHAPES};
-use crate::model::{Blend, Decision, Kind, Packet, Range, Region, Rule, FIELDS};
-use crate::packed::{mend, open, pack_rows, BLOCK};
+use crate::model::{Blend, Book, Decision, Kind, Packet, Range, Region, Rule, FIELDS};
+use crate::packed::{mend, open, pack_rows, BLOCK, ROW, ROWS_AT, ROWS_A_BLOCK};
 use crate::rng::Rng;
 use crate::table;
 use crate::text::read;
@@ -47,11 +47,8 @@ fn two_texts(rng: &mut Rng, kind: Kind) -> (Vec<u8>, Vec<u8>) {
 }
 
 fn any_packet(rng: &mut Rng, kind: Kind, texts: &[&[u8]]) -> Packet {
-    let regions: Vec<Region> = texts
-        .iter()
-        .flat_map(|text| read(kind, text).placed)
-        .map(|placed| placed.rule.region)
-        .collect();
+    let regions: Vec<Region> =
+        texts.iter().flat_map(|text| read(kind, text).placed).map(|placed| placed.rule.region).collect();
     material::packet(rng, &regions)
 }
 
@@ -61,8 +58,10 @@ pub fn at_random(rng: &mut Rng, call: &str) -> Case {
     match call {
         "read" => {
             let mut text = text(rng, kind, 12);
-            if !rng.once_in(4) {
-                material::spoil(rng, &mut text);
+            match rng.below(4) {
+                0 => {}
+                1 => material::spoil(rng, &mut text),
+                _ => material::swap_word(rng, &mut text),
             }
             Case::Read(kind, text)
         }
@@ -160,7 +159,12 @@ fn damaged(rng: &mut Rng, kind: Kind) -> Vec<u8> {
             bytes[place] ^= 1 << rng.below(8);
         }
         1 => {
-            let place = rng.below(bytes.len());
+            // Any byte, or one that counts or numbers, or a row's decision or kind.
+            let row = ROWS_AT + rng.below(ROWS_A_BLOCK) * ROW;
+            let telling = rng.pick(&[0, 1, 2, 3, row + 26, row + 27]);
+            let block = rng.below(bytes.len() / BLOCK) * BLOCK;
+            let any = rng.below(bytes.len());
+            let place = rng.pick(&[any, block + telling, block + telling]);
             bytes[place] = rng.pick(&[0, 1, 2, 3, 16, 17, 18, 255]);
             bytes.chunks_mut(BLOCK).for_each(mend);
         }
@@ -179,21 +183,25 @@ fn any_decision(rng: &mut Rng, kind: Kind) -> Decision {
     }
 }
 
-/// Calls on a book, at positions that mostly have a rule.
+/// Calls on a book, mostly at positions that will do.
 fn edits(rng: &mut Rng, kind: Kind) -> Vec<Edit> {
-    let mut length = 0;
-    (0..rng.below(14))
+    let mut book = Book::open(kind);
+    (0..rng.below(16))
         .map(|_| {
-            let mut position = || rng.below(length + 2);
+            let length = book.rules().len();
+            let mut position = || if rng.once_in(8) { length + rng.below(3) } else { rng.below(length.max(1)) };
             let (p, q) = (position(), position());
-            match rng.below(8) {
-                0 => Edit::Drop(p),
+            match rng.below(7) {
+                0 => {
+                    let _ = book.drop(p);
+                    Edit::Drop(p)
+                }
                 1 => Edit::Shift(p, q),
                 2 => Edit::Recast(p, any_decision(rng, kind)),
                 _ => {
-                    length += 1;
-                    let region = any_region(rng);
-                    Edit::Add(p, Rule::new(region, any_decision(rng, kind)))
+                    let rule = Rule::new(any_region(rng), any_decision(rng, kind));
+                    let _ = book.add(p, rule);
+                    Edit::Add(p, rule)
                 }
             }
         })

@@ -89,9 +89,15 @@ fn rows_by_hand() -> Vec<(String, Case)> {
         rows("two ranges with a gap of one", "allow * * * 17-21 *\nallow * * * 23-80 *"),
         rows("a rule that is shadowed", "allow * * * 17-80 *\ndeny * * * 22 *"),
         rows("a rule inside another", "deny * * * 22 *\nallow * * * 17-80 *"),
-        rows("both halves of an axis", "allow 0.0.0.0-127.255.255.255 * * * *\nallow 128.0.0.0-255.255.255.255 * * * *"),
+        rows(
+            "both halves of an axis",
+            "allow 0.0.0.0-127.255.255.255 * * * *\nallow 128.0.0.0-255.255.255.255 * * * *",
+        ),
         rows("neighbours alike on the next field, not on the last", "allow 0.0.0.0 1 * * *\nallow 0.0.0.1 1 * * 6\n"),
-        rows("neighbours alike though written apart", "allow 0.0.0.0 * * 1-9 *\nallow 0.0.0.1 * * 1-4 *\nallow 0.0.0.1 * * 5-9 *\n"),
+        rows(
+            "neighbours alike though written apart",
+            "allow 0.0.0.0 * * 1-9 *\nallow 0.0.0.1 * * 1-4 *\nallow 0.0.0.1 * * 5-9 *\n",
+        ),
         rows("one packet", "allow 1.2.3.4 5 6.7.8.9 10 11\n"),
         rows("the first packet", "allow 0.0.0.0 0 0.0.0.0 0 0\n"),
         rows("the last packet", "deny 255.255.255.255 65535 255.255.255.255 65535 255\n"),
@@ -102,24 +108,25 @@ fn rows_by_hand() -> Vec<(String, Case)> {
         rows("the pilot boat, the yard's list on top", &format!("{YARD}{OURS}")),
         rows("the pilot boat, our list on top", &format!("{OURS}{YARD}")),
         rows("four rules on ports", FOUR),
-        named("marks", Case::Rows(MARKS, b"log * * * 1-2 6\nmeter+hold * * * 2 *\nlog+meter+copy+hold * * * 3 0".to_vec())),
+        named(
+            "marks",
+            Case::Rows(MARKS, b"log * * * 1-2 6\nmeter+hold * * * 2 *\nlog+meter+copy+hold * * * 3 0".to_vec()),
+        ),
     ];
     for count in [2, 18, 19, 100] {
         cases.push((format!("{count} rows"), Case::Rows(VERDICTS, text_with_rows(VERDICTS, count))));
     }
     for kind in [VERDICTS, MARKS] {
         for count in [MAX_ROWS - 1, MAX_ROWS, MAX_ROWS + 1] {
-            cases.push((format!("{count} rows of kind {}", kind.number()), Case::Rows(kind, text_with_rows(kind, count))));
+            cases.push((
+                format!("{count} rows of kind {}", kind.number()),
+                Case::Rows(kind, text_with_rows(kind, count)),
+            ));
         }
     }
     cases.push(named("64 boxes, each inside the next", Case::Rows(VERDICTS, onion())));
-    for text in [
-        "deny * * * * *\n\t",
-        "deny * *\n",
-        "drop * * * * *\n",
-        "deny * * 10.0.0.256 * 6",
-        "deny * 2-1 * * *",
-    ] {
+    for text in ["deny * * * * *\n\t", "deny * *\n", "drop * * * * *\n", "deny * * 10.0.0.256 * 6", "deny * 2-1 * * *"]
+    {
         cases.push(rows("a text that is refused", text));
     }
     cases.push(named("a text with 65 rules", Case::Rows(VERDICTS, ALL.repeat(MAX_RULES + 1).into_bytes())));
@@ -189,9 +196,8 @@ fn decides_by_hand() -> Vec<(String, Case)> {
 }
 
 fn compares_by_hand() -> Vec<(String, Case)> {
-    let of = |name: &str, kind, first: &str, second: &str| {
-        named(name, Case::Compare(kind, first.into(), second.into()))
-    };
+    let of =
+        |name: &str, kind, first: &str, second: &str| named(name, Case::Compare(kind, first.into(), second.into()));
     vec![
         of("all against all but port 22", VERDICTS, ALL, ALL_BUT_22),
         of("all but port 22 against all", VERDICTS, ALL_BUT_22, ALL),
@@ -202,7 +208,12 @@ fn compares_by_hand() -> Vec<(String, Case)> {
         of("second edition against first", VERDICTS, TUG_SECOND, TUG_FIRST),
         of("our list against the yard's", VERDICTS, OURS, YARD),
         of("the yard's list against ours", VERDICTS, YARD, OURS),
-        of("they differ on the last packet only", VERDICTS, ALL, "deny 255.255.255.255 65535 255.255.255.255 65535 255\nallow * * * * *\n"),
+        of(
+            "they differ on the last packet only",
+            VERDICTS,
+            ALL,
+            "deny 255.255.255.255 65535 255.255.255.255 65535 255\nallow * * * * *\n",
+        ),
         of("marks that are not below each other", MARKS, "log * * * * 6\n", "meter * * * * *\n"),
         of("marks that are", MARKS, "log * * * * 6\n", "log+meter * * * * *\n"),
     ]
@@ -220,10 +231,20 @@ fn winners_by_hand() -> Vec<(String, Case)> {
         of("our list on top, another port", OURS, YARD, status),
         of("neither decides", OURS, YARD, [0; FIELDS]),
         of("no text", "", "", [0; FIELDS]),
-        of("the second of four rules", "deny * * * 1 *\n\n# x\nallow * * * 2 *\ndeny * * * 2 *\n", ALL, [0, 0, 0, 2, 0]),
+        of(
+            "the second of four rules",
+            "deny * * * 1 *\n\n# x\nallow * * * 2 *\ndeny * * * 2 *\n",
+            ALL,
+            [0, 0, 0, 2, 0],
+        ),
         of("a last line without line feed", "", "# x\nallow * * * * *", [1, 2, 3, 4, 5]),
         of("a fault in the first text", "x", ALL, [0; FIELDS]),
-        of("a fault in the second text, behind the line that would win", ALL, "deny * * * * *\ndeny * 2-1 * * *\n", [0; FIELDS]),
+        of(
+            "a fault in the second text, behind the line that would win",
+            ALL,
+            "deny * * * * *\ndeny * 2-1 * * *\n",
+            [0; FIELDS],
+        ),
         of("faults in both texts", "deny * * * * 256\n", "\0", [0; FIELDS]),
     ]
 }
@@ -302,7 +323,7 @@ fn damage_by_hand() -> Vec<(String, Case)> {
         change("the last byte of all", &[flipped(3 * BLOCK - 1)], false),
         change("an unused byte of the last block, check wrong", &[(2 * BLOCK + CHECK_AT - 1, 9)], false),
         change("count 17 in the first block", &[(1, 17)], true),
-        change("count 18 and 256 in the second block", &[(BLOCK, 1)], true),
+        change("count 274 in the second block", &[(BLOCK, 1)], true),
         change("count 0 in the last block", &[(2 * BLOCK + 1, 0)], true),
         change("count 1 in the last block, so its second row is unused", &[(2 * BLOCK + 1, 1)], true),
         change("count 19 in the last block", &[(2 * BLOCK + 1, 19)], true),
@@ -348,8 +369,14 @@ fn damage_by_hand() -> Vec<(String, Case)> {
                 (cut(1, 10, 65_535).with(3, Range::new(8, 65_535)), 2),
             ],
         ),
-        rows("an earlier field goes on before the later one has ended", &[(cut(0, 0, 5).with(4, Range::new(0, 9)), 1), (cut(0, 6, u32::MAX), 2)]),
-        rows("a later field that does not begin at 0", &[(cut(0, 0, 5), 1), (cut(0, 6, u32::MAX).with(4, Range::new(1, 255)), 2)]),
+        rows(
+            "an earlier field goes on before the later one has ended",
+            &[(cut(0, 0, 5).with(4, Range::new(0, 9)), 1), (cut(0, 6, u32::MAX), 2)],
+        ),
+        rows(
+            "a later field that does not begin at 0",
+            &[(cut(0, 0, 5), 1), (cut(0, 6, u32::MAX).with(4, Range::new(1, 255)), 2)],
+        ),
     ]);
     let full = material::with_rows(&mut Rng::new(1), VERDICTS, MAX_ROWS);
     let mut rows = table::rows(&full.into()).expect("1,152 rows are not too many");
@@ -379,15 +406,45 @@ fn edits_by_hand() -> Vec<(String, Case)> {
     vec![
         of("no call", &[]),
         of("calls on an empty book", &[Edit::Drop(0), Edit::Shift(0, 0), Edit::Recast(0, 2), Edit::Add(1, rule(1, 2))]),
-        of("add at the front, in the middle and at the end", &then(&[Edit::Add(0, rule(9, 0)), Edit::Add(2, rule(8, 0)), Edit::Add(6, rule(7, 0))])),
-        of("drop the first, a middle one and the last", &then(&[Edit::Drop(0), Edit::Drop(1), Edit::Drop(1), Edit::Drop(1)])),
+        of(
+            "add at the front, in the middle and at the end",
+            &then(&[Edit::Add(0, rule(9, 0)), Edit::Add(2, rule(8, 0)), Edit::Add(6, rule(7, 0))]),
+        ),
+        of(
+            "drop the first, a middle one and the last",
+            &then(&[Edit::Drop(0), Edit::Drop(1), Edit::Drop(1), Edit::Drop(1)]),
+        ),
         of("shift forth", &then(&[Edit::Shift(0, 3), Edit::Shift(1, 2)])),
         of("shift back", &then(&[Edit::Shift(3, 0), Edit::Shift(2, 1)])),
         of("shift in place", &then(&[Edit::Shift(2, 2)])),
         of("shift from and to no rule", &then(&[Edit::Shift(4, 0), Edit::Shift(0, 4), Edit::Shift(9, 9)])),
         of("recast", &then(&[Edit::Recast(0, 0), Edit::Recast(3, 0), Edit::Recast(3, 2)])),
-        of("recast refused", &then(&[Edit::Recast(4, 2), Edit::Recast(4, 1), Edit::Recast(0, 1), Edit::Recast(0, 3), Edit::Recast(0, 255)])),
-        of("add refused", &then(&[Edit::Add(5, reversed(1)), Edit::Add(4, reversed(1)), Edit::Add(4, rule(0, 1)), Edit::Add(4, rule(0, 3))])),
-        of("add to a full book", &[&full[..], &[Edit::Add(99, reversed(1)), Edit::Drop(63), Edit::Add(99, reversed(1)), Edit::Add(63, rule(9, 0))]].concat()),
+        of(
+            "recast refused",
+            &then(&[
+                Edit::Recast(4, 2),
+                Edit::Recast(4, 1),
+                Edit::Recast(0, 1),
+                Edit::Recast(0, 3),
+                Edit::Recast(0, 255),
+            ]),
+        ),
+        of(
+            "add refused",
+            &then(&[
+                Edit::Add(5, reversed(1)),
+                Edit::Add(4, reversed(1)),
+                Edit::Add(4, rule(0, 1)),
+                Edit::Add(4, rule(0, 3)),
+            ]),
+        ),
+        of(
+            "add to a full book",
+            &[
+                &full[..],
+                &[Edit::Add(99, reversed(1)), Edit::Drop(63), Edit::Add(99, reversed(1)), Edit::Add(63, rule(9, 0))],
+            ]
+            .concat(),
+        ),
     ]
 }

@@ -248,7 +248,7 @@ fn unhex(word: &str) -> Result<Vec<u8>, String> {
         b'a'..=b'f' => Ok(byte - b'a' + 10),
         _ => Err(format!("no hexadecimal digit: {}", byte as char)),
     };
-    if word.is_empty() || word.len() % 2 != 0 {
+    if word.is_empty() || !word.len().is_multiple_of(2) {
         return Err("hexadecimal digits come in pairs".to_string());
     }
     word.as_bytes().chunks(2).map(|pair| Ok(digit(pair[0])? << 4 | digit(pair[1])?)).collect()
@@ -376,8 +376,8 @@ impl Words<'_> {
 
     fn packet(&mut self) -> Result<Packet, String> {
         let mut packet = [0; FIELDS];
-        for field in 0..FIELDS {
-            packet[field] = self.value(field)?;
+        for (field, value) in packet.iter_mut().enumerate() {
+            *value = self.value(field)?;
         }
         Ok(packet)
     }

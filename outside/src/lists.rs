@@ -21,10 +21,7 @@ pub fn winner<'a>(
     packet: &Packet,
 ) -> Result<Option<(Which, Placed<'a>)>, (Which, Fault)> {
     let read = |which, text| text::read(kind, text).finish().map_err(|fault| (which, fault));
-    let lines = [
-        (Which::First, read(Which::First, first)?),
-        (Which::Second, read(Which::Second, second)?),
-    ];
+    let lines = [(Which::First, read(Which::First, first)?), (Which::Second, read(Which::Second, second)?)];
     // No rule is silent, so the first line of all that holds the packet is the one that decides it.
     let mut all = lines.into_iter().flat_map(|(which, lines)| lines.into_iter().map(move |line| (which, line)));
     Ok(all.find(|(_, line)| line.rule.region.holds(packet)))

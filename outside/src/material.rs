@@ -188,18 +188,24 @@ pub fn source(rng: &mut Rng, kind: Kind, shape: Shape, rules: usize, layers: usi
     Source::pair(blend, first, second)
 }
 
-/// A packet at, just before or just behind the ends of the source's ranges, or anywhere.
+/// A packet at or near the ends of the regions' ranges, or anywhere.
 pub fn packet(rng: &mut Rng, regions: &[Region]) -> Packet {
-    std::array::from_fn(|field| {
-        if regions.is_empty() || rng.once_in(5) {
-            return value(rng, field);
+    if regions.is_empty() {
+        return std::array::from_fn(|field| value(rng, field));
+    }
+    // Half of the packets keep to one region, except perhaps on one field.
+    let home = rng.once_in(2).then(|| rng.pick(regions));
+    let stray = rng.below(2 * FIELDS);
+    std::array::from_fn(|field| match home {
+        Some(region) if field != stray => {
+            let Range { low, high } = region.0[field];
+            let inside = rng.between(low, high);
+            rng.pick(&[low, high, inside])
         }
-        let Range { low, high } = rng.pick(regions).0[field];
-        match rng.below(4) {
-            0 => low.saturating_sub(1),
-            1 => low,
-            2 => high,
-            _ => high.saturating_add(1).min(TOPS[field]),
+        _ if rng.once_in(5) => value(rng, field),
+        _ => {
+            let Range { low, high } = rng.pick(regions).0[field];
+            rng.pick(&[low.saturating_sub(1), low, high, high.saturating_add(1).min(TOPS[field])])
         }
     })
 }
@@ -221,6 +227,68 @@ pub fn text(rng: &mut Rng, kind: Kind, rules: &[Rule]) -> Vec<u8> {
         text.pop();
     }
     text.into_bytes()
+}
+
+/// Words that are often wrong where a range or a decision is wanted.
+const WORDS: [&str; 46] = [
+    "",
+    "#",
+    "-",
+    "*",
+    "**",
+    "*-*",
+    "*-1",
+    "1-*",
+    "0",
+    "00",
+    "01",
+    "007",
+    "1-",
+    "-1",
+    "1--2",
+    "1-2-3",
+    "2-1",
+    "9-10",
+    "10-9",
+    "255",
+    "256",
+    "65535",
+    "65536",
+    "70000-1",
+    "4294967295",
+    "4294967296",
+    "4294967297",
+    "18446744073709551617",
+    "99999999999999999999999999999999999999",
+    "+1",
+    "1,2",
+    "0x1",
+    "1.0",
+    "1/",
+    ":",
+    "tcp",
+    "1.2.3",
+    "1.2.3.4.5",
+    ".2.3.4",
+    "1.2.3.00",
+    "1.2.3.4-",
+    "1.2.3.4-1.2.3.3",
+    "1.2.3.4-1.2.3.5-1.2.3.6",
+    "none",
+    "log+hold",
+    "hold+log",
+];
+
+/// Puts another word in place of one word of a text.
+pub fn swap_word(rng: &mut Rng, text: &mut Vec<u8>) {
+    let is_gap = |byte: u8| byte == b' ' || byte == b'\n';
+    if text.is_empty() {
+        return;
+    }
+    let place = rng.below(text.len());
+    let start = text[..place].iter().rposition(|&byte| is_gap(byte)).map_or(0, |gap| gap + 1);
+    let end = text[place..].iter().position(|&byte| is_gap(byte)).map_or(text.len(), |gap| place + gap);
+    text.splice(start..end, rng.pick(&WORDS).bytes());
 }
 
 /// Changes one to three bytes of a text: overwritten, taken out, doubled, or put in.

@@ -207,10 +207,8 @@ impl Kind {
             Kind::Verdicts if decision == 0 => "deny".to_string(),
             Kind::Verdicts => "allow".to_string(),
             Kind::Marks => {
-                let names: Vec<&str> = (0..MARKS.len())
-                    .filter(|i| decision & (1 << i) != 0)
-                    .map(|i| MARKS[i])
-                    .collect();
+                let names: Vec<&str> =
+                    (0..MARKS.len()).filter(|i| decision & (1 << i) != 0).map(|i| MARKS[i]).collect();
                 names.join("+")
             }
         }
@@ -483,7 +481,20 @@ mod tests {
         let word = |text: &str| Kind::Marks.read(text.as_bytes());
         assert_eq!(word("log+hold"), Some(9));
         assert_eq!(word("log+meter+copy+hold"), Some(15));
-        for bad in ["", "+", "log+", "+log", "log++meter", "log+log", "meter+log", "hold+copy", "LOG", "log meter", "none", "allow"] {
+        for bad in [
+            "",
+            "+",
+            "log+",
+            "+log",
+            "log++meter",
+            "log+log",
+            "meter+log",
+            "hold+copy",
+            "LOG",
+            "log meter",
+            "none",
+            "allow",
+        ] {
             assert_eq!(word(bad), None, "{bad}");
         }
     }

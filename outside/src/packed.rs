@@ -86,7 +86,7 @@ impl fmt::Display for Damage {
 /// The source that decides by the rows of packed bytes.
 pub fn open(kind: Kind, bytes: &[u8]) -> Result<Source, Damage> {
     let damage = |refusal, place| Damage { refusal, place };
-    if bytes.is_empty() || bytes.len() % BLOCK != 0 || bytes.len() > BLOCK * MAX_BLOCKS {
+    if bytes.is_empty() || !bytes.len().is_multiple_of(BLOCK) || bytes.len() > BLOCK * MAX_BLOCKS {
         return Err(damage(Refusal::BadLength, 0));
     }
     let last = bytes.len() / BLOCK - 1;

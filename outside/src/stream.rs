@@ -13,8 +13,8 @@ pub struct Named {
 
 /// The calls that have a stream of their own.
 pub const CALLS: [&str; 15] = [
-    "read", "rows", "over", "meet", "join", "part", "disputes", "decide", "compare", "winner", "findings", "pack", "open",
-    "rig", "edit",
+    "read", "rows", "over", "meet", "join", "part", "disputes", "decide", "compare", "winner", "findings", "pack",
+    "open", "rig", "edit",
 ];
 
 /// So many cases of one call, or of all calls if none is named. None if there is no such call.
@@ -79,7 +79,19 @@ mod tests {
                 assert!(answers.iter().any(|answer| answer.starts_with(start)), "{call}: no answer {start}");
             }
         };
-        expect("read", &["taken", "refused 6 ", "refused 7 ", "refused 8 ", "refused 9 ", "refused 10 ", "refused 3 ", "refused 1 "]);
+        expect(
+            "read",
+            &[
+                "taken",
+                "refused 6 ",
+                "refused 7 ",
+                "refused 8 ",
+                "refused 9 ",
+                "refused 10 ",
+                "refused 3 ",
+                "refused 1 ",
+            ],
+        );
         expect("rows", &["rows 1\n", "rows 1152\n", "refused 5 layer 0 line 0 column 0\n", "refused 6 ", "refused 1 "]);
         expect("part", &["rows", "refused 3 layer 0"]);
         expect("disputes", &["disputes 0\n", "disputes 1\n"]);
@@ -87,7 +99,10 @@ mod tests {
         expect("winner", &["none\n", "text 1 line", "text 2 line", "text 1 refused", "text 2 refused"]);
         expect("findings", &["findings 0\n", "findings 2016\n", "refused 5 "]);
         expect("pack", &["packed 1\n", "packed 1152\n", "refused 5 "]);
-        expect("open", &["opened", "refused 11 ", "refused 12 ", "refused 13 ", "refused 14 ", "refused 15 ", "refused 16 "]);
+        expect(
+            "open",
+            &["opened", "refused 11 ", "refused 12 ", "refused 13 ", "refused 14 ", "refused 15 ", "refused 16 "],
+        );
         expect("decide", &["decision 0\n", "decision 1\n", "decision 2\n", "decision 3\n"]);
         let answers = ["answer 0\n", "answer 1\n", "answer 2\n", "answer 111\n", "answer 112\n", "answer 113\n"];
         expect("rig", &answers);

@@ -145,9 +145,7 @@ impl Piece {
 
     /// What is left where the field has the given value.
     fn at(&self, kind: Kind, field: usize, value: u32) -> Piece {
-        let widened = |region: &Region| {
-            region.0[field].holds(value).then(|| region.with(field, Range::whole(field)))
-        };
+        let widened = |region: &Region| region.0[field].holds(value).then(|| region.with(field, Range::whole(field)));
         match self {
             Piece::Fixed(decision) => Piece::Fixed(*decision),
             Piece::List(rules, behind) => {
@@ -274,13 +272,7 @@ mod tests {
         );
         assert_eq!(
             printed(&book(Kind::Marks, "log * * * 1-2 6\nmeter * * * 2 6")),
-            [
-                "none * * * 0 *",
-                "none * * * 1-2 0-5",
-                "log * * * 1-2 6",
-                "none * * * 1-2 7-255",
-                "none * * * 3-65535 *"
-            ]
+            ["none * * * 0 *", "none * * * 1-2 0-5", "log * * * 1-2 6", "none * * * 1-2 7-255", "none * * * 3-65535 *"]
         );
     }
 

