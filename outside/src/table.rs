@@ -328,13 +328,18 @@ mod tests {
     #[test]
     fn tables_decide_as_their_sources() {
         let mut rng = Rng::new(3);
-        let mut taken = 0;
+        let (mut taken, mut searched) = (0, 0);
         for round in 0..600 {
             let kind = material::kind(&mut rng);
             let source = material::source(&mut rng, kind, SHAPES[round % SHAPES.len()], 12, round % 4);
             let Ok(rows) = rows(&source) else { continue };
             taken += 1;
             assert!(brute::is_nested(&rows));
+            let cells: usize = brute::grid(&[&Source::Table(kind, rows.clone())]).iter().map(Vec::len).product();
+            if cells * rows.len() < 100_000 {
+                assert_eq!(brute::first_alike(kind, &rows), None, "round {round}");
+                searched += 1;
+            }
             let regions = source.regions();
             for _ in 0..300 {
                 let packet = material::packet(&mut rng, &regions);
@@ -345,6 +350,6 @@ mod tests {
             let again = Source::Table(kind, rows.clone());
             assert!(super::rows(&again).unwrap() == rows, "the table of a table is the same table");
         }
-        assert!(taken > 300, "only {taken} tables were small enough");
+        assert!(taken > 300 && searched > 150, "only {taken} tables were small enough, {searched} for a search");
     }
 }
