@@ -55,9 +55,14 @@ module _ {T E : Type 0} where
   appended-begins (Err x) before text after e = e
 
   -- cut back to what was there before, nothing is written
-  pub cut-back : (r : Result T E) (before text after : List ℕ) (n : ℕ) → true ≡ isErr r → n ≡ length before → Appended r before text after → take n after ≡ before ++ cond (isOk r) text []
-  cut-back (Ok x) before text after n err long e = let y : _≡_ {A = ℕ} 0 1 = cc in absurd (omega arith)
-  cut-back (Err x) before text after n err long e = ap (take n) (e .1) ∙ take-at before (e .0) n (sym long) ∙ sym (append-nil before)
+  pub cut-back : (r : Result T E) (before text after : List ℕ) (n : ℕ) → n ≡ length before → Appended r before text after → take n after ≡ before
+  cut-back r before text after n long e =
+      let begins = appended-begins r before text after e in
+      ap (take n) (begins .1) ∙ take-at before (begins .0) n (sym long)
+
+  pub nothing-written : (r : Result T E) (before text : List ℕ) → true ≡ isErr r → before ≡ before ++ cond (isOk r) text []
+  nothing-written (Ok x) before text err = let y : _≡_ {A = ℕ} 0 1 = cc in absurd (omega arith)
+  nothing-written (Err x) before text err = sym (append-nil before)
 
 pub digit-one : (n : ℕ) → n < 10 → decimal n ≡ (48 + n) ∷ []
 digit-one n h = decimal-digit n h

@@ -1,14 +1,12 @@
 -- One field more of a region that is read field by field. Assumes nothing.
-use mathlib.Core.Path.{_≡_, refl, sym, ap, ap₂, _∙_}
+use mathlib.Core.Path.{_≡_, refl, sym, ap, _∙_}
 use mathlib.Core.List.{List, [], _∷_, _++_}
-use Prim.Native.Nat.{ℕ, zero, suc, _+_, _-_, _*_, _^_, min, _<_, _≤_}
+use Prim.Native.Nat.{ℕ, _+_, _-_, _<_, _≤_}
 use native.Mathlib.Omega.{arith}
 use lib.ListN.{length, take, drop, getD, set}
-use Rattle.std.specs.declared.option.Option.{Option}
-use Rattle.std.specs.declared.option.Option.the-variants.{Some, None}
 use Rattle.std.specs.declared.result.Result.{Result}
 use Rattle.std.specs.declared.result.Result.the-variants.{Ok, Err}
-use Rattle.std.proofs.shelf.Lists.{append-assoc, append-nil, drop-all, take-more-set}
+use Rattle.std.proofs.shelf.Lists.{append-assoc, drop-all, take-more-set}
 use Rattle.packet.specs.declared.field.Field.{Field}
 use Rattle.packet.specs.declared.field.Field.the-variants.{Source, SourcePort, Destination, DestinationPort, Protocol}
 use Rattle.packet.specs.declared.range.Range.{Range}
@@ -18,7 +16,7 @@ use Rattle.text.specs.declared.faults.WordFault.{WordFault}
 use Rattle.text.specs.declared.faults.LineFault.{LineFault}
 use Rattle.text.specs.declared.faults.LineFault.the-variants.{Word, Words}
 use Rattle.text.specs.Steps.{then, carried}
-use Rattle.text.specs.Ranges.{value-of, range-of}
+use Rattle.text.specs.Ranges.{range-of}
 use Rattle.text.specs.Fields.{fields, ranges-from}
 use Rattle.text.proofs.Spans.{Sound, clamped-same}
 

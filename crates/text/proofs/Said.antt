@@ -1,20 +1,19 @@
 -- What a rule that a line says is known to be: no range of it is reversed, and its decision is one of the kind and not silent, so
 -- that only a full book refuses it. Assumes nothing.
 use mathlib.Core.Path.{_≡_, refl, sym, ap, ap₂, subst, _∙_}
-use mathlib.Core.Bool.{Bool, true, false, cond, not, _&&_, _||_}
+use mathlib.Core.Bool.{Bool, true, false, cond, not, _&&_}
 use mathlib.Core.List.{List, [], _∷_, _++_}
-use mathlib.Core.Logic.{inl, inr}
-use Prim.Native.Nat.{ℕ, zero, suc, _+_, _<_, _≤_}
+use Prim.Native.Nat.{ℕ, zero, suc, _+_, _<_}
 use native.Mathlib.Omega.{arith}
 use lib.Dec.{leb, ltb, eqb}
-use lib.ListN.{length, take, drop}
+use lib.ListN.{length}
 use Rattle.std.specs.shelf.Text.{sameBytes}
 use Rattle.std.specs.declared.option.Option.{Option}
 use Rattle.std.specs.declared.option.Option.the-variants.{Some, None}
 use Rattle.std.specs.declared.result.Result.{Result}
 use Rattle.std.specs.declared.result.Result.the-variants.{Ok, Err}
 use Rattle.std.proofs.shelf.Lists.{take-all, drop-all}
-use Rattle.std.proofs.shelf.Tests.{and-parts, or-parts, or-from, lt-ltb, le-ltb, and-from, not-true, not-from-true, not-from-false, cases-bool, cond-true, cond-false}
+use Rattle.std.proofs.shelf.Tests.{and-parts, or-parts, or-from, lt-ltb, le-ltb, and-from, not-true, not-from-true, not-from-false, cond-false}
 use Rattle.packet.specs.declared.field.Field.{Field}
 use Rattle.packet.specs.declared.range.Range.{Range}
 use Rattle.packet.specs.Regions.{ranges, range-at, reversed, any-reversed}
@@ -23,7 +22,6 @@ use Rattle.book.specs.declared.rule.Rule.{Rule}
 use Rattle.book.specs.declared.refusal.Refusal.{Refusal}
 use Rattle.book.specs.declared.refusal.Refusal.the-variants.{Full}
 use Rattle.book.specs.PlainList.{Step, taken, refused, speaks, add, with-rule}
-use Rattle.text.specs.declared.faults.LineFault.{LineFault}
 use Rattle.text.specs.declared.faults.LineFault.the-variants.{Letter, Word}
 use Rattle.text.specs.declared.faults.ReadFault.the-variants.{Full as FullBook}
 use Rattle.text.specs.Pieces.{pieces}
@@ -104,7 +102,6 @@ rule-fit read (w ∷ ws) rule e =
     at-decision (Some x) d e = let same : d ≡ x = cc in ap Some same
 
 line-fit : (read : List ℕ → Option ℕ) (line : List ℕ) (rule : Rule) → Ok (Some rule) ≡ line-of read line → Fit read rule
-unfolding line-of
 line-fit read line rule e =
     let letters = then-ok (carried Letter (letters-of line)) (λ _. cond (skipped line) (Ok None) (then (words-of line) (λ _. then (rule-of read (pieces 32 line)) (λ said. Ok (Some said))))) (Some rule) e in
     at-skipped (skipped line) (letters .2)

@@ -1,5 +1,5 @@
 -- The range of a word by its token. Assumes nothing.
-use mathlib.Core.Path.{_≡_, refl, sym, ap, ap₂, subst, _∙_}
+use mathlib.Core.Path.{_≡_, refl, sym, ap₂, subst}
 use mathlib.Core.Bool.{Bool, true, false, cond}
 use mathlib.Core.List.{List, [], _∷_}
 use mathlib.Core.Logic.{inl, inr}
@@ -9,7 +9,6 @@ use lib.ListN.{getD}
 use Rattle.std.specs.shelf.Text.{sameBytes}
 use Rattle.std.specs.declared.option.Option.{Option}
 use Rattle.std.specs.declared.option.Option.the-variants.{Some, None}
-use Rattle.std.specs.declared.result.Result.{Result}
 use Rattle.std.specs.declared.result.Result.the-variants.{Ok, Err}
 use Rattle.std.proofs.shelf.Equals.{sameBytes-decides}
 use Rattle.std.proofs.shelf.Tests.{cond-true, cond-false, cases-bool, le-ltb}
@@ -18,7 +17,7 @@ use Rattle.packet.specs.declared.field.Field.the-variants.{Source, SourcePort, 
 use Rattle.packet.specs.declared.range.Range.{Range}
 use Rattle.packet.specs.Packets.{tops, place}
 use Rattle.packet.specs.Regions.{reversed, clamped}
-use Rattle.text.specs.declared.faults.WordFault.the-variants.{Number, Reversed}
+use Rattle.text.specs.declared.faults.WordFault.the-variants.{Reversed}
 use Rattle.text.specs.Pieces.{pieces}
 use Rattle.text.specs.Ranges.{value-of, ends-of, judged, range-of, written-range}
 use Rattle.text.proofs.Values.{number-top, address-top}

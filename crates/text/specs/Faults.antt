@@ -1,8 +1,6 @@
 -- The number, the layer and the place of each fault. Cited by src/faults.rt. Assumes nothing.
 use Prim.Native.Nat.{ℕ}
-use Rattle.text.specs.declared.faults.WordFault.{WordFault}
 use Rattle.text.specs.declared.faults.WordFault.the-variants.{Number, Reversed}
-use Rattle.text.specs.declared.faults.LineFault.{LineFault}
 use Rattle.text.specs.declared.faults.LineFault.the-variants.{Letter, Word, Words, Decision}
 use Rattle.text.specs.declared.faults.ReadFault.{ReadFault}
 use Rattle.text.specs.declared.faults.ReadFault.the-variants.{Line, Full, Long}

@@ -36,7 +36,7 @@ rule-of read (w ∷ ws) =
     Ok (record { region = region; decision = decision })))
 
 -- a line's rule, if it has one, or its first fault: letters come first, then the count of words, then word by word
-unfoldable pub line-of : (List ℕ → Option ℕ) → List ℕ → Result (Option Rule) LineFault
+abbrev pub line-of : (List ℕ → Option ℕ) → List ℕ → Result (Option Rule) LineFault
 line-of read line =
     then (carried Letter (letters-of line)) (λ _.
     cond (skipped line) (Ok None)

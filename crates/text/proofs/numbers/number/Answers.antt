@@ -1,8 +1,8 @@
-use mathlib.Core.Path.{refl, sym, ap, _∙_}
+use mathlib.Core.Path.{sym, ap, _∙_}
 use Prim.Native.Nat.{_+_, _*_}
 use native.Mathlib.Omega.{arith}
 use Rattle.std.proofs.shelf.Tests.{le-leb, cond-true}
-use Rattle.text.specs.Numbers.{at-most, value-from}
+use Rattle.text.specs.Numbers.{at-most}
 use Rattle.text.proofs.Values.{number-plain, number-not-plain, value-large, value-more, value-stop, value-end}
 use Rattle.text.proofs.numbers.number.Needs as need
 

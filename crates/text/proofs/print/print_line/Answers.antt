@@ -1,9 +1,9 @@
-use mathlib.Core.Path.{_≡_, sym, ap, subst, _∙_}
+use mathlib.Core.Path.{_≡_, sym, subst, _∙_}
 use Prim.Native.Nat.{ℕ, _<_, _≤_}
 use native.Mathlib.Omega.{arith}
 use lib.ListN.{length, getD}
 use Rattle.std.specs.Of.String.{string-bytes}
-use Rattle.text.proofs.Appends.{appended-begins, cut-back, boundary-behind}
+use Rattle.text.proofs.Appends.{appended-begins, cut-back, nothing-written, boundary-behind}
 use Rattle.text.proofs.print.print_line.Needs as need
 
 pub truncate-requires : need.truncate-requires
@@ -18,4 +18,5 @@ truncate-requires g c κs = λ within.
 
 pub returns-then-is-err : need.returns-then-is-err
 returns-then-is-err g c =
-    c .truncate .ensures .bytes ∙ cut-back (c .push-line-printed .result) _ _ _ _ (c .if-is-err .ensures tt .value) (c .len-length .ensures ∙ c .args .out .now .bytes .ok .0) (c .push-line-printed .ensures)
+    c .truncate .ensures .bytes ∙ cut-back (c .push-line-printed .result) _ _ _ _ (c .len-length .ensures ∙ c .args .out .now .bytes .ok .0) (c .push-line-printed .ensures)
+    ∙ nothing-written (c .push-line-printed .result) _ _ (c .if-is-err .ensures tt .value)

@@ -2,6 +2,7 @@ use mathlib.Core.Path.{sym, ap, ap₂, _∙_}
 use mathlib.Core.List.{List}
 use Prim.Native.Nat.{ℕ, _+_}
 use native.Mathlib.Omega.{arith}
+use lib.ListN.{length}
 use Rattle.std.proofs.shelf.Results.{err-from-errBy}
 use Rattle.std.proofs.shelf.Tests.{le-ltb, cond-false}
 use Rattle.decision.specs.Kinds.{read-word}
@@ -16,7 +17,7 @@ use Rattle.text.proofs.reading.read.Needs as need
 pub loop-line-holds : need.loop-line-holds
 loop-line-holds g c = (
   omega (arith, ap extent (c .new-lines .ensures), extent-pieces 10 (c .args .text .now)),
-  cond-false _ _ _ (le-ltb _ _ (c .if-text-gt-LIMIT .left))
+  cond-false _ _ _ (le-ltb 16384 (length (c .args .text .now)) (omega arith))
       ∙ ap₂ (λ (ls : List (List ℕ)) (rules : List Rule). lines-from (read-word (g .K·Kind .size) (g .K·Kind .silence) (g .K·Kind .spelling)) 1 ls rules) (sym (c .new-lines .ensures)) (sym (c .clear .ensures)),
 )
 
