@@ -5,9 +5,10 @@ use mathlib.Core.Bool.{Bool, true, false, not, _&&_, _||_}
 use mathlib.Core.List.{List}
 use Prim.Native.Nat.{ℕ, zero, suc, _≤_, _<_}
 use native.Mathlib.Omega.{arith}
-use lib.Dec.{ltb, eqb}
+use lib.Dec.{leb, ltb, eqb}
+use lib.ListN.{length}
 use Rattle.std.specs.shelf.Text.{sameBytes}
-use Rattle.std.proofs.shelf.Tests.{and-parts, and-from, eqb-true, ltb-true, cases-lt}
+use Rattle.std.proofs.shelf.Tests.{and-parts, and-from, eqb-true, leb-true, ltb-true, cases-lt}
 use Rattle.std.proofs.shelf.Equals.{sameBytes-decides}
 use Rattle.decision.specs.Kinds.{Lattice, Words, first-word}
 use Rattle.decision.proofs.Words.{words-apart}
@@ -71,7 +72,8 @@ module _ (n : ℕ) (below : ℕ → ℕ → Bool) (meet join : ℕ → ℕ → �
   }
 
 pub words-tested : (n silent : ℕ) (word : ℕ → List ℕ) → ltb silent n ≡ true
-    → all n (λ a. all n (λ b. so (sameBytes (word a) (word b)) (eqb a b))) ≡ true → all n (λ d. first-word (word d)) ≡ true → Words n silent word
-words-tested n silent word l apart first = words-apart n silent word
+    → all n (λ a. all n (λ b. so (sameBytes (word a) (word b)) (eqb a b))) ≡ true → all n (λ d. first-word (word d)) ≡ true → all n (λ d. leb (length (word d)) 64) ≡ true
+    → Words n silent word
+words-tested n silent word l apart first few = words-apart n silent word
     (λ a b la lb e. eqb-true a b (so-then _ _ (at-two n (λ a b. so (sameBytes (word a) (word b)) (eqb a b)) apart a b la lb) (sameBytes-decides (word a) (word b) .1 e)))
-    (ltb-true silent n l) (at n (λ d. first-word (word d)) first)
+    (ltb-true silent n l) (at n (λ d. first-word (word d)) first) (λ d ld. leb-true _ _ (at n (λ d. leb (length (word d)) 64) few d ld))

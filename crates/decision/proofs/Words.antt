@@ -6,6 +6,7 @@ use mathlib.Core.List.{List}
 use Prim.Native.Nat.{ℕ, zero, suc, _-_, _≤_, _<_}
 use native.Mathlib.Omega.{arith}
 use lib.Dec.{eqb}
+use lib.ListN.{length}
 use Rattle.std.specs.shelf.Text.{sameBytes}
 use Rattle.std.specs.declared.option.Option.{Option}
 use Rattle.std.specs.declared.option.Option.the-variants.{Some, None}
@@ -70,9 +71,10 @@ module _ (count silent : ℕ) (word : ℕ → List ℕ) (apart : Apart count wor
             ]
       ]
 
-  pub words-apart : silent < count → ((d : ℕ) → d < count → first-word (word d) ≡ true) → Words count silent word
-  words-apart l first = record {
+  pub words-apart : silent < count → ((d : ℕ) → d < count → first-word (word d) ≡ true) → ((d : ℕ) → d < count → length (word d) ≤ 64) → Words count silent word
+  words-apart l first few = record {
     read-back = λ d ld h. read-at count d (omega arith) ld h;
     silent-unread = unread count silent (omega arith) l (λ k lk h. h);
     stands-first = first;
+    short = few;
   }

@@ -5,6 +5,7 @@ use mathlib.Core.List.{List, [], _∷_}
 use mathlib.Core.Bool.{Bool, true, false, cond, not, _&&_}
 use Prim.Native.Nat.{ℕ, zero, suc, _≤_, _<_}
 use lib.Dec.{leb, ltb, eqb}
+use lib.ListN.{length}
 use Rattle.std.specs.shelf.Text.{sameBytes}
 use Rattle.std.specs.declared.option.Option.{Option}
 use Rattle.std.specs.declared.option.Option.the-variants.{Some, None}
@@ -64,8 +65,10 @@ abbrev pub first-word : List ℕ → Bool
 first-word [] = false
 first-word (b ∷ bs) = not (eqb b 35) && inside-word (b ∷ bs)
 
--- what is written is read back; the silent decision's word is not read; every word can stand first in a line
+-- what is written is read back; the silent decision's word is not read; every word can stand first in a line, and has at most 64
+-- bytes, so that 64 lines make a text that is not too long
 pub record Words (count silent : ℕ) (word : ℕ → List ℕ) : Type 0 where
   pub read-back : (d : ℕ) → d < count → (d ≡ silent → ⊥) → read-word count silent word (word d) ≡ Some d
   pub silent-unread : read-word count silent word (word silent) ≡ None
   pub stands-first : (d : ℕ) → d < count → first-word (word d) ≡ true
+  pub short : (d : ℕ) → d < count → length (word d) ≤ 64

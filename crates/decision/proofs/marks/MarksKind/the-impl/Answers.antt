@@ -6,4 +6,4 @@ pub lattice-law : need.lattice-law
 lattice-law = lattice-tested _ _ _ _ refl refl refl refl refl refl refl refl refl refl refl
 
 pub words-law : need.words-law
-words-law = words-tested _ _ _ refl refl refl
+words-law = words-tested _ _ _ refl refl refl refl
