@@ -1,34 +1,20 @@
 -- Along one field, up to the nearest end of the rules looked at, a list of rules decides alike. Assumes nothing.
-use mathlib.Core.Path.{_≡_, refl, sym, ap, ap₂, subst, _∙_}
-use mathlib.Core.Logic.{inl, inr}
+use mathlib.Core.Path.{_≡_, refl, sym, ap, ap₂, _∙_}
 use mathlib.Core.Bool.{Bool, true, false, cond, _&&_}
 use mathlib.Core.List.{List, [], _∷_, _++_}
-use Prim.Native.Nat.{ℕ, zero, suc, min, _≤_, _<_}
+use Prim.Native.Nat.{ℕ, suc, min, _≤_, _<_}
 use native.Mathlib.Omega.{arith}
 use lib.ListN.{length, getD, take, drop}
-use Rattle.std.proofs.shelf.Lists.{getD-past}
-use Rattle.std.proofs.shelf.Tests.{false≢true, cases-lt, and-parts, and-from, eqb-true, leb-true, le-leb}
+use Rattle.std.proofs.shelf.Tests.{false≢true, and-parts, and-from, eqb-true, leb-true, le-leb}
 use Rattle.packet.specs.declared.range.Range.{Range}
 use Rattle.packet.specs.Packets.{Within, tops}
 use Rattle.packet.specs.Regions.{ranges, range-at, inside, holds}
+use Rattle.packet.proofs.Values.{long, at-most}
 use Rattle.packet.proofs.Holding.{holds-at, run-alike, run-from}
 use Rattle.policy.specs.Edges.{Alike, Edge}
 use Rattle.book.specs.declared.rule.Rule.{Rule}
 use Rattle.book.specs.Deciding.{first, known, meant}
 use Rattle.book.specs.Reach.{run, nearest, in-play, whole, all-whole, settles, looked-at, Stops}
-
-within-length : (most p : List ℕ) → Within most p → length p ≡ length most
-within-length [] [] w = refl
-within-length [] (v ∷ p) w = absurd w
-within-length (top ∷ most) [] w = absurd w
-within-length (top ∷ most) (v ∷ p) w = ap suc (within-length most p (w .1))
-
-within-at : (most p : List ℕ) (f : ℕ) → Within most p → getD p f 0 ≤ getD most f 0
-within-at [] [] f w = omega arith
-within-at [] (v ∷ p) f w = absurd w
-within-at (top ∷ most) [] f w = absurd w
-within-at (top ∷ most) (v ∷ p) zero w = w .0
-within-at (top ∷ most) (v ∷ p) (suc f) w = within-at most p f (w .1)
 
 -- whole ranges hold whatever values there are
 whole-holds : (most : List ℕ) (rs : List (Range ℕ)) (p : List ℕ) → all-whole most rs ≡ true → Within most p → holds rs p ≡ true
@@ -103,22 +89,15 @@ module _ (f : ℕ) (p : List ℕ) where
         ∙ sym (ap (λ t. cond t (rule .decision) (first silent rules (take f p ++ (getD p f 0 ∷ rest)))) (at (getD p f 0)))
 
 -- the nearest end of the rules looked at is an edge of what they decide
-pub stops-edge : (count silent : ℕ) (rules : List Rule) (f : ℕ) (p : List ℕ) (r : ℕ) → Within tops p → Stops rules f p r → Edge (meant count silent rules) p f r
+pub stops-edge : (count silent : ℕ) (rules : List Rule) (f : ℕ) (p : List ℕ) (r : ℕ) → f < length tops → Within tops p → Stops rules f p r → Edge (meant count silent rules) p f r
 unfolding Alike
-stops-edge count silent rules f p r w s =
-    let most = nearest-most f p (looked-at f p rules) in
+stops-edge count silent rules f p r few w s =
     record {
-      from = omega (arith, nearest-from f p (within-at tops p f w) (looked-at f p rules), s .value);
-      most = omega (arith, most, s .value);
-      alike = λ x y rest fits lx xr ly yr. elim (cases-lt f (length tops)) [
-        | inl few ↦
-            let own = first-alike f p few (within-length tops p w) silent rest fits in
-            ap (known count silent) (own x lx rules (omega (arith, s .value)) ∙ sym (own y ly rules (omega (arith, s .value))))
-        | inr past ↦
-            let none = getD-past tops f 0 past in
-            let e : x ≡ y = omega (arith, none, most, s .value) in
-            ap (λ v. meant count silent rules (take f p ++ (v ∷ rest))) e
-      ];
+      from = omega (arith, nearest-from f p (at-most tops p f w) (looked-at f p rules), s .value);
+      most = omega (arith, nearest-most f p (looked-at f p rules), s .value);
+      alike = λ x y rest fits lx xr ly yr.
+          let own = first-alike f p few (long tops p w) silent rest fits in
+          ap (known count silent) (own x lx rules (omega (arith, s .value)) ∙ sym (own y ly rules (omega (arith, s .value))));
     }
 
 pub stops-at : (rules : List Rule) (f : ℕ) (p : List ℕ) (r : ℕ) → r ≡ nearest f p (looked-at f p rules) → Stops rules f p r

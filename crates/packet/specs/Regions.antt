@@ -1,7 +1,7 @@
 -- Ranges, and regions as lists of ranges, one for each field. Cited by src/range.rt and src/region.rt. Assumes nothing.
 use mathlib.Core.List.{List, [], _∷_}
 use mathlib.Core.Bool.{Bool, true, false, cond, _&&_, _||_}
-use Prim.Native.Nat.{ℕ, _-_, min}
+use Prim.Native.Nat.{ℕ, _-_, _≤_, min}
 use lib.Dec.{leb, ltb}
 use lib.ListN.{getD}
 use Rattle.packet.specs.declared.range.Range.{Range}
@@ -30,6 +30,13 @@ ranges g = g .source ∷ g .«source_port» ∷ g .destination ∷ g .«destinat
 -- the range at a field's place
 abbrev pub range-at : List (Range ℕ) → ℕ → Range ℕ
 range-at rs f = getD rs f (record { low = 0; high = 0 })
+
+-- one range for each field, and no end above the field's largest value
+abbrev pub Fit : List ℕ → List (Range ℕ) → Type 0
+Fit [] [] = Unit {0}
+Fit [] (r ∷ rs) = ⊥
+Fit (top ∷ rest) [] = ⊥
+Fit (top ∷ rest) (r ∷ rs) = (r .low ≤ top) × (r .high ≤ top) × Fit rest rs
 
 -- does the packet lie in the ranges, field by field?
 abbrev pub holds : List (Range ℕ) → List ℕ → Bool

@@ -1,9 +1,9 @@
 // Regions: one range for each field.
 ghost use mathlib.Core.Path.{_≡_};
-ghost use Prim.Native.Nat.{ℕ};
+ghost use Prim.Native.Nat.{_≤_};
 ghost use lib.ListN.{getD, set};
 ghost use Rattle.packet.specs.Packets.{values, tops, place};
-ghost use Rattle.packet.specs.Regions.{ranges, holds, any-reversed, clamped, range-at};
+ghost use Rattle.packet.specs.Regions.{ranges, Fit, holds, any-reversed, clamped, range-at};
 use crate::field::Field;
 use crate::packet::Packet;
 use crate::range::Range;
@@ -19,11 +19,32 @@ pub struct Region {
     pub protocol: Range<u8>,
 }
 
-// The same range of wider numbers.
-fn wide<T: Drop>(range: Range<T>) -> Range<u32>
-where
-    u32: From<T>,
-    ensures { λ r. ⌜ converts (range .low) (r .low) ⌝ ∗ ⌜ converts (range .high) (r .high) ⌝ }
+// A range of addresses.
+fn addresses(range: Range<u32>) -> Range<u32>
+    ensures value { λ r. ⌜ r ≡ range ⌝ }
+    ensures fit { λ r. ⌜ r .low ≤ 4294967295 ⌝ ∗ ⌜ r .high ≤ 4294967295 ⌝ }
+{
+    Range {
+        low: range.low,
+        high: range.high,
+    }
+}
+
+// A range of ports, over wide numbers.
+fn ports(range: Range<u16>) -> Range<u32>
+    ensures value { λ r. ⌜ r ≡ range ⌝ }
+    ensures fit { λ r. ⌜ r .low ≤ 65535 ⌝ ∗ ⌜ r .high ≤ 65535 ⌝ }
+{
+    Range {
+        low: u32::from(range.low),
+        high: u32::from(range.high),
+    }
+}
+
+// A range of protocols, over wide numbers.
+fn protocols(range: Range<u8>) -> Range<u32>
+    ensures value { λ r. ⌜ r ≡ range ⌝ }
+    ensures fit { λ r. ⌜ r .low ≤ 255 ⌝ ∗ ⌜ r .high ≤ 255 ⌝ }
 {
     Range {
         low: u32::from(range.low),
@@ -55,14 +76,15 @@ impl Region {
 
     // The ranges of all fields, in their order.
     pub fn to_array(self) -> [Range<u32>; Field::COUNT]
-        ensures { λ r. ⌜ r ≡ ranges self ⌝ }
+        ensures value { λ r. ⌜ r ≡ ranges self ⌝ }
+        ensures fit { λ _. ⌜ Fit tops (ranges self) ⌝ }
     {
         [
-            self.source,
-            wide(self.source_port),
-            self.destination,
-            wide(self.destination_port),
-            wide(self.protocol),
+            addresses(self.source),
+            ports(self.source_port),
+            addresses(self.destination),
+            ports(self.destination_port),
+            protocols(self.protocol),
         ]
     }
 
@@ -72,10 +94,10 @@ impl Region {
     {
         match field {
             Field::Source => self.source,
-            Field::SourcePort => wide(self.source_port),
+            Field::SourcePort => ports(self.source_port),
             Field::Destination => self.destination,
-            Field::DestinationPort => wide(self.destination_port),
-            Field::Protocol => wide(self.protocol),
+            Field::DestinationPort => ports(self.destination_port),
+            Field::Protocol => protocols(self.protocol),
         }
     }
 
@@ -123,10 +145,10 @@ impl Region {
         ensures { λ r. ⌜ r ≡ holds (ranges self) (values packet) ⌝ }
     {
         self.source.contains(packet.source)
-            && wide(self.source_port).contains(u32::from(packet.source_port))
+            && ports(self.source_port).contains(u32::from(packet.source_port))
             && self.destination.contains(packet.destination)
-            && wide(self.destination_port).contains(u32::from(packet.destination_port))
-            && wide(self.protocol).contains(u32::from(packet.protocol))
+            && ports(self.destination_port).contains(u32::from(packet.destination_port))
+            && protocols(self.protocol).contains(u32::from(packet.protocol))
     }
 
     // Is a range of the region reversed?
@@ -134,9 +156,9 @@ impl Region {
         ensures { λ r. ⌜ r ≡ any-reversed (ranges self) ⌝ }
     {
         self.source.is_reversed()
-            || wide(self.source_port).is_reversed()
+            || ports(self.source_port).is_reversed()
             || self.destination.is_reversed()
-            || wide(self.destination_port).is_reversed()
-            || wide(self.protocol).is_reversed()
+            || ports(self.destination_port).is_reversed()
+            || protocols(self.protocol).is_reversed()
     }
 }

@@ -1,0 +1,11 @@
+pub mod Pieces
+pub mod Numbers
+pub mod Tokens
+pub mod Faults
+pub mod Ranges
+pub mod Steps
+pub mod Letters
+pub mod Words
+pub mod Fields
+pub mod Lines
+pub mod Readings
