@@ -101,9 +101,9 @@ covers-means a b f = (forth, back)
     back c = elim (cases-bool (any-reversed b)) [
       | inl e ↦ or-left (any-reversed b) (reaches-over a b) e
       | inr e ↦
-        let l = lows-held tops b f e in
-        let u = highs-held tops b f e in
-        or-right (any-reversed b) (reaches-over a b) (corners-over a b (c (lows b) (l .0) (l .1)) (c (highs b) (u .0) (u .1)))
+          let l = lows-held tops b f e in
+          let u = highs-held tops b f e in
+          or-right (any-reversed b) (reaches-over a b) (corners-over a b (c (lows b) (l .0) (l .1)) (c (highs b) (u .0) (u .1)))
     ]
 
 -- the packet at the later starts
@@ -122,8 +122,7 @@ starts-held (t ∷ ts) (r ∷ a) [] f g h = absurd g
 starts-held (t ∷ ts) (r ∷ a) (s ∷ b) f g h =
     let parts = and-parts _ _ h in
     let met = leb-true (max (r .low) (s .low)) (min (r .high) (s .high)) (parts .0) in
-    let more = starts-held ts a b (f .2) (g .2) (parts .1) in
-    (
+    let more = starts-held ts a b (f .2) (g .2) (parts .1) in (
       (omega (arith, f .0, g .0), more .0),
       and-from _ _ (inside-from r (max (r .low) (s .low)) (omega arith) (omega arith)) (more .1),
       and-from _ _ (inside-from s (max (r .low) (s .low)) (omega arith) (omega arith)) (more .2),

@@ -1,9 +1,9 @@
--- The pairs of rules that hide each other, in order. Cited by src/finding.rt and src/findings.rt. Assumes nothing.
+-- The pairs of rules that hide each other, in order. Cited by src/finding.rt and src/listing.rt. Assumes nothing.
 use mathlib.Core.List.{List, [], _∷_, _++_}
 use mathlib.Core.Bool.{Bool, cond, not, _&&_}
-use Prim.Native.Nat.{ℕ, suc, _+_}
+use Prim.Native.Nat.{ℕ, suc}
 use lib.Dec.{eqb, ltb}
-use lib.ListN.{length, take, drop}
+use lib.ListN.{length, drop}
 use Rattle.std.specs.declared.option.Option.{Option}
 use Rattle.std.specs.declared.option.Option.the-variants.{Some, None}
 use Rattle.std.specs.declared.result.Result.{Result}
@@ -41,7 +41,7 @@ hiding-of a b =
     (cond (covers b a && not (agree a b)) (Some Generalised)
     (cond (shares a b && not (agree a b)) (Some Correlated) None)))
 
--- what is found of rule i, here a, and rule j, here b
+-- what is found of rule i and rule j
 abbrev pub found : ℕ → ℕ → Option Hiding → List Finding
 found i j None = []
 found i j (Some h) = record { first = i; second = j; hiding = h } ∷ []
@@ -60,14 +60,10 @@ from-rule i (a ∷ rules) = with-later i a (suc i) rules ++ from-rule (suc i) ru
 abbrev pub findings-of : List Rule → List Finding
 findings-of rules = from-rule 0 rules
 
--- entries with a list written over them from a place on
-abbrev pub written : List Finding → ℕ → List Finding → List Finding
-written entries at list = take at entries ++ (list ++ drop (at + length list) entries)
-
 -- the answer: how many findings there are, unless they are more than the entries
 abbrev pub count-of : List Finding → ℕ → Result ℕ TooShort
-count-of list room = cond (ltb room (length list)) (Err (record { })) (Ok (length list))
+count-of list room = cond (ltb room (length list)) (Err (record {})) (Ok (length list))
 
 -- the entries afterwards: the findings and then the entries that stay, or if there are too many findings all as it was
 abbrev pub entries-after : List Finding → List Finding → List Finding
-entries-after list entries = cond (ltb (length entries) (length list)) entries (written entries 0 list)
+entries-after list entries = cond (ltb (length entries) (length list)) entries (list ++ drop (length list) entries)

@@ -10,6 +10,5 @@ pub use finding::Finding;
 pub use finding::Hiding;
 pub use finding::TooShort;
 pub use listing::findings;
-
 pub use overlap::covers;
 pub use overlap::shares;
