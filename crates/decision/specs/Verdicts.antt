@@ -1,4 +1,4 @@
--- The words of kind 1.
+-- The words of kind 1. Cited by src/verdicts.rt. Assumes nothing.
 use mathlib.Core.List.{List}
 use mathlib.Core.Bool.{cond}
 use Prim.Native.Nat.{ℕ}

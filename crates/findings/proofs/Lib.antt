@@ -1,0 +1,4 @@
+pub mod Sided
+pub mod Overlapped
+pub mod Told
+pub mod Listed
