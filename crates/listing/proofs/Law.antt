@@ -1,6 +1,6 @@
 -- A text of rules reads back. Assumes nothing.
-use mathlib.Core.Path.{_≡_, refl, sym, ap, subst, _∙_}
-use mathlib.Core.Bool.{Bool, true, false, cond, not}
+use mathlib.Core.Path.{_≡_, refl, sym, ap, _∙_}
+use mathlib.Core.Bool.{true, not}
 use mathlib.Core.List.{List, [], _∷_, _++_, append-assoc, append-nil}
 use Prim.Native.Nat.{ℕ, _+_, _*_, _<_, _≤_}
 use native.Mathlib.Omega.{arith}
@@ -9,8 +9,7 @@ use lib.ListN.{length}
 use Rattle.std.specs.shelf.Lists.{All}
 use Rattle.std.specs.declared.option.Option.{Option}
 use Rattle.std.specs.declared.option.Option.the-variants.{Some}
-use Rattle.std.specs.declared.result.Result.{Result}
-use Rattle.std.specs.declared.result.Result.the-variants.{Ok, Err}
+use Rattle.std.specs.declared.result.Result.the-variants.{Ok}
 use Rattle.std.proofs.shelf.Elements.{all-weaker, all-getD, all-from-every}
 use Rattle.std.proofs.shelf.Lists.{length-append}
 use Rattle.std.proofs.shelf.Tests.{cond-false, and-parts, le-ltb, lt-leb, ltb-true, not-true, eqb-false}
@@ -20,15 +19,13 @@ use Rattle.decision.specs.Kinds.{Words, read-word}
 use Rattle.book.specs.declared.rule.Rule.{Rule}
 use Rattle.book.specs.PlainList.{speaks}
 use Rattle.book.specs.Rules.{Forward, AllForward}
-use Rattle.text.specs.declared.faults.LineFault.{LineFault}
-use Rattle.text.specs.declared.faults.ReadFault.the-variants.{Full, Long}
 use Rattle.text.specs.Pieces.{pieces}
 use Rattle.text.specs.Letters.{letters-from}
 use Rattle.text.specs.Fields.{fields}
 use Rattle.text.specs.Lines.{line-of}
 use Rattle.text.specs.Printing.{line-text}
-use Rattle.text.specs.Readings.{Reading, ended, added, add-line, lines-from, read-of}
-use Rattle.text.proofs.Lined.{lines-more, lines-end}
+use Rattle.text.specs.Readings.{Reading, ended, added, add-line, lines-from}
+use Rattle.text.proofs.Lined.{lines-more}
 use Rattle.listing.specs.Listings.{rules-text, all-speak, ReadsBack}
 use Rattle.listing.proofs.Cuts.{Without, pieces-first}
 use Rattle.listing.proofs.Lined.{AllSound, all-sound, line-letters, line-back, line-short}

@@ -1,15 +1,15 @@
 -- Lines, written and read. Assumes nothing.
-use mathlib.Core.Path.{_≡_, refl, sym, ap, ap₂, subst, _∙_}
-use mathlib.Core.Bool.{Bool, true, false, cond, not, _&&_}
+use mathlib.Core.Path.{_≡_, refl, ap, ap₂, _∙_}
+use mathlib.Core.Bool.{true, false, cond, not, _&&_}
 use mathlib.Core.List.{List, [], _∷_, _++_, append-nil}
-use Prim.Native.Nat.{ℕ, suc, _+_, _*_, _<_, _≤_}
+use Prim.Native.Nat.{ℕ, _+_, _*_, _≤_}
 use native.Mathlib.Omega.{arith}
 use lib.Dec.{leb, eqb}
 use lib.ListN.{length}
 use Rattle.std.specs.declared.option.Option.{Option}
 use Rattle.std.specs.declared.option.Option.the-variants.{Some, None}
 use Rattle.std.specs.declared.result.Result.{Result}
-use Rattle.std.specs.declared.result.Result.the-variants.{Ok, Err}
+use Rattle.std.specs.declared.result.Result.the-variants.{Ok}
 use Rattle.std.proofs.shelf.Elements.{all-append, all-weaker}
 use Rattle.std.proofs.shelf.Lists.{length-append}
 use Rattle.std.proofs.shelf.Tests.{cond-true, cond-false, and-parts, and-from, or-parts, le-leb, leb-true, ne-eqb, not-true}
@@ -23,7 +23,7 @@ use Rattle.book.specs.declared.rule.Rule.{Rule}
 use Rattle.text.specs.declared.faults.WordFault.{WordFault}
 use Rattle.text.specs.declared.faults.LineFault.{LineFault}
 use Rattle.text.specs.declared.faults.LetterFault.{LetterFault}
-use Rattle.text.specs.declared.faults.LineFault.the-variants.{Letter, Word, Words}
+use Rattle.text.specs.declared.faults.LineFault.the-variants.{Letter, Word}
 use Rattle.text.specs.Steps.{then, carried}
 use Rattle.text.specs.Pieces.{pieces}
 use Rattle.text.specs.Letters.{is-letter, letters-from}
@@ -34,7 +34,7 @@ use Rattle.text.specs.Printing.{range-text, ranges-text, line-text}
 use Rattle.text.proofs.Spans.{Sound}
 use Rattle.listing.proofs.Cuts.{Without, pieces-first, pieces-one}
 use Rattle.listing.proofs.Numbered.{Between, wider}
-use Rattle.listing.proofs.Ranged.{top, Wordly, range-back, range-bytes}
+use Rattle.listing.proofs.Ranged.{top, range-back, range-bytes}
 
 -- each field has a range whose ends fit it and are in order
 abbrev pub AllSound : List Field → List (Range ℕ) → Type 0

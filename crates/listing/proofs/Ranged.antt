@@ -1,9 +1,9 @@
 -- Range words, written and read. Assumes nothing.
-use mathlib.Core.Path.{_≡_, refl, sym, ap, ap₂, subst, _∙_}
-use mathlib.Core.Bool.{Bool, true, false, cond}
+use mathlib.Core.Path.{_≡_, sym, ap, ap₂, subst, _∙_}
+use mathlib.Core.Bool.{true, false}
 use mathlib.Core.List.{List, [], _∷_, _++_}
 use mathlib.Core.Logic.{inl, inr}
-use Prim.Native.Nat.{ℕ, _+_, _^_, _<_, _≤_}
+use Prim.Native.Nat.{ℕ, _+_, _<_, _≤_}
 use native.Mathlib.Omega.{arith}
 use lib.Dec.{eqb}
 use lib.ListN.{length, getD}
@@ -14,14 +14,13 @@ use Rattle.std.specs.declared.result.Result.the-variants.{Ok, Err}
 use Rattle.std.proofs.shelf.Decimals.{decimal-some, length-decimal-le}
 use Rattle.std.proofs.shelf.Elements.{all-append, all-weaker}
 use Rattle.std.proofs.shelf.Lists.{length-append}
-use Rattle.std.proofs.shelf.Tests.{cond-true, cond-false, cases-bool, and-parts, eqb-true, eqb-false}
+use Rattle.std.proofs.shelf.Tests.{cond-false, cases-bool, and-parts, eqb-true, eqb-false}
 use Rattle.packet.specs.declared.field.Field.{Field}
 use Rattle.packet.specs.declared.field.Field.the-variants.{Source, SourcePort, Destination, DestinationPort, Protocol}
 use Rattle.packet.specs.declared.range.Range.{Range}
 use Rattle.packet.specs.Packets.{tops, place}
 use Rattle.packet.specs.Regions.{reversed}
 use Rattle.text.specs.declared.faults.WordFault.the-variants.{Reversed}
-use Rattle.text.specs.Pieces.{pieces}
 use Rattle.text.specs.Ranges.{value-of, ends-of, judged, range-of}
 use Rattle.text.specs.Printing.{value-text, whole, range-text}
 use Rattle.text.proofs.Spans.{Sound, range-star, range-word}
