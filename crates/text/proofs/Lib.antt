@@ -7,3 +7,4 @@ pub mod Placed
 pub mod Said
 pub mod Lined
 pub mod Appends
+pub mod Found

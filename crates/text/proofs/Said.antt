@@ -44,7 +44,7 @@ carried-ok up (Ok y) x e = let same : x ≡ y = cc in ap Ok same
 carried-ok up (Err fault) x e = let z : _≡_ {A = ℕ} 0 1 = cc in absurd (omega arith)
 
 -- the decision that a word is read as is below the count, and not silent
-read-known : (n silent : ℕ) (spelling : ℕ → List ℕ) (w : List ℕ) (d : ℕ) → Some d ≡ read-word n silent spelling w → (d < n) × (eqb d silent ≡ false)
+pub read-known : (n silent : ℕ) (spelling : ℕ → List ℕ) (w : List ℕ) (d : ℕ) → Some d ≡ read-word n silent spelling w → (d < n) × (eqb d silent ≡ false)
 unfolding read-word
 read-known zero silent spelling w d e = let z : _≡_ {A = ℕ} 0 1 = cc in absurd (omega arith)
 read-known (suc n) silent spelling w d e = at-word (not (eqb n silent) && sameBytes (spelling n) w) refl e (read-known n silent spelling w d)
@@ -101,7 +101,7 @@ rule-fit read (w ∷ ws) rule e =
     at-decision None d e = let z : _≡_ {A = ℕ} 0 1 = cc in absurd (omega arith)
     at-decision (Some x) d e = let same : d ≡ x = cc in ap Some same
 
-line-fit : (read : List ℕ → Option ℕ) (line : List ℕ) (rule : Rule) → Ok (Some rule) ≡ line-of read line → Fit read rule
+pub line-fit : (read : List ℕ → Option ℕ) (line : List ℕ) (rule : Rule) → Ok (Some rule) ≡ line-of read line → Fit read rule
 line-fit read line rule e =
     let letters = then-ok (carried Letter (letters-of line)) (λ _. cond (skipped line) (Ok None) (then (words-of line) (λ _. then (rule-of read (pieces 32 line)) (λ said. Ok (Some said))))) (Some rule) e in
     at-skipped (skipped line) (letters .2)

@@ -10,3 +10,4 @@ pub mod Fields
 pub mod Lines
 pub mod Readings
 pub mod Printing
+pub mod DecidingLines

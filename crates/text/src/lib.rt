@@ -5,6 +5,7 @@
 // numbers, ranges, regions, a line, the text. The faults of one layer are carried whole by the next (faults). The contract that
 // matters most is that of `read`: its answer, and the rules that the book then holds, are those of specs/Readings.antt, whatever
 // the bytes are. `print_line` writes the form that `read` reads. Rests on packet, decision and book.
+pub mod deciding;
 pub mod faults;
 mod letters;
 mod lexer;
@@ -18,6 +19,7 @@ mod regions;
 mod tokens;
 mod words;
 
+pub use deciding::deciding_line;
 pub use faults::LetterFault;
 pub use faults::LineFault;
 pub use faults::ReadFault;

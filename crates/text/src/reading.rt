@@ -12,7 +12,7 @@ use book::Book;
 use decision::Kind;
 
 // How many bytes a text has at most.
-const LIMIT: usize = 16_384;
+pub(crate) const LIMIT: usize = 16_384;
 
 // Adds the rule of a line, if it has one. The line's number is known only here, so that its fault is taken up by a match.
 fn add_line<K: Kind>(book: &mut Book<K>, number: usize, text: &[u8]) -> Result<(), ReadFault>
