@@ -1,5 +1,5 @@
 -- Along one field, up to the nearest end of the rules looked at, a list of rules decides alike. Assumes nothing.
-use mathlib.Core.Path.{_≡_, refl, sym, ap, ap₂, subst, _∙_}
+use mathlib.Core.Path.{_≡_, refl, sym, ap, ap₂, _∙_}
 use mathlib.Core.Logic.{inl, inr}
 use mathlib.Core.Bool.{Bool, true, false, cond, _&&_}
 use mathlib.Core.List.{List, [], _∷_, _++_}
@@ -17,6 +17,7 @@ use Rattle.book.specs.declared.rule.Rule.{Rule}
 use Rattle.book.specs.Deciding.{first, known, meant}
 use Rattle.book.specs.Reach.{run, nearest, in-play, whole, all-whole, settles, looked-at, Stops}
 
+-- a packet has a value for each field, and none above the field's largest
 within-length : (most p : List ℕ) → Within most p → length p ≡ length most
 within-length [] [] w = refl
 within-length [] (v ∷ p) w = absurd w
@@ -45,6 +46,7 @@ whole-holds (top ∷ most) (r ∷ rs) (v ∷ p) h w =
     and-from (inside r v) (holds rs p) (and-from _ _ (le-leb (r .low) v (omega arith)) (le-leb v (r .high) (omega (arith, w .0)))) (whole-holds most rs p (both .1) (w .1))
 
 module _ (f : ℕ) (p : List ℕ) where
+  -- the nearest end lies between p's value and the largest
   pub nearest-most : (rules : List Rule) → nearest f p rules ≤ getD tops f 0
   unfolding nearest
   nearest-most [] = omega arith
@@ -69,7 +71,7 @@ module _ (f : ℕ) (p : List ℕ) where
   nearest-of-all (rule ∷ rules) = later-by-one rule rules (looked-at f p rules) (nearest-of-all rules) (in-play f p rule) (settles f p rule)
 
   -- one rule more: x, no further than the rules looked at, is decided as p's own value
-  module _ (rest : List ℕ) (x : ℕ) (from : getD p f 0 ≤ x) (rule : Rule) (looked : List Rule) (there here : ℕ) (w : Bool)
+  module _ (x : ℕ) (from : getD p f 0 ≤ x) (rule : Rule) (looked : List Rule) (there here : ℕ) (w : Bool)
       (fills : all-whole (drop (suc f) tops) (drop (suc f) (ranges (rule .region))) ≡ true → w ≡ true)
       (others : x ≤ nearest f p looked → there ≡ here) where
     abbrev hit : ℕ → Bool
@@ -89,6 +91,7 @@ module _ (f : ℕ) (p : List ℕ) where
         let same = run-alike (getD tops f 0) (range-at (ranges (rule .region)) f) (getD p f 0) x from (omega arith) in
         ap₂ (λ s m. cond (s && w) (rule .decision) m) same (others (omega arith))
 
+  -- up to the nearest end of the rules looked at, the first rule that holds the packet has one decision
   module _ (few : f < length tops) (long : length p ≡ length tops) (silent : ℕ) (rest : List ℕ) (fits : Within (drop (suc f) tops) rest)
       (x : ℕ) (from : getD p f 0 ≤ x) where
     first-alike : (rules : List Rule) → x ≤ nearest f p (looked-at f p rules) → first silent rules (take f p ++ (x ∷ rest)) ≡ first silent rules (take f p ++ (getD p f 0 ∷ rest))
@@ -98,7 +101,7 @@ module _ (f : ℕ) (p : List ℕ) where
         let rs = ranges (rule .region) in
         let at : (v : ℕ) → holds rs (take f p ++ (v ∷ rest)) ≡ (in-play f p rule && (inside (range-at rs f) v && holds (drop (suc f) rs) rest)) = λ v. holds-at rs p f v rest few (omega arith) in
         ap (λ t. cond t (rule .decision) (first silent rules (take f p ++ (x ∷ rest)))) (at x)
-        ∙ alike-by-one rest x from rule (looked-at f p rules) _ _ (holds (drop (suc f) rs) rest) (λ e. whole-holds (drop (suc f) tops) (drop (suc f) rs) rest e fits)
+        ∙ alike-by-one x from rule (looked-at f p rules) _ _ (holds (drop (suc f) rs) rest) (λ e. whole-holds (drop (suc f) tops) (drop (suc f) rs) rest e fits)
         (first-alike rules) (in-play f p rule) (settles f p rule) refl h
         ∙ sym (ap (λ t. cond t (rule .decision) (first silent rules (take f p ++ (getD p f 0 ∷ rest)))) (at (getD p f 0)))
 
@@ -121,5 +124,6 @@ stops-edge count silent rules f p r w s =
       ];
     }
 
+-- the nearest end of the rules looked at is what a book's edge is
 pub stops-at : (rules : List Rule) (f : ℕ) (p : List ℕ) (r : ℕ) → r ≡ nearest f p (looked-at f p rules) → Stops rules f p r
 stops-at rules f p r e = record { value = e; not-before = omega (arith, e, nearest-of-all f p rules) }

@@ -11,7 +11,7 @@ use Rattle.packet.specs.Packets.{tops}
 use Rattle.packet.specs.Regions.{ranges, range-at, inside, holds, run-end}
 use Rattle.book.specs.declared.rule.Rule.{Rule}
 use Rattle.book.specs.Deciding.{first}
-use Rattle.book.specs.Reach.{run, nearest, in-play, settles, all-whole, looked-at}
+use Rattle.book.specs.Reach.{run, nearest, all-whole, looked-at}
 
 -- a test `all` of two lists of one length, pair by pair
 module _ {A B : Type 0} (test : A → B → Bool) (all : List A → List B → Bool) (none : all [] [] ≡ true)

@@ -5,7 +5,7 @@ ghost use Rattle.book.specs.Rules.{AllForward};
 use crate::rule::Rule;
 use std::marker::PhantomData;
 
-pub mod edits;
+mod edits;
 pub mod source;
 
 // At most 64 rules in order, over decisions of the kind K. Memory for all of them is had when the book is opened.

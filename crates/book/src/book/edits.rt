@@ -3,7 +3,7 @@ ghost use mathlib.Core.Path.{_≡_};
 ghost use mathlib.Core.List.{[]};
 ghost use Rattle.std.specs.Vec.{made};
 ghost use Rattle.book.specs.Books.{rules-of};
-ghost use Rattle.book.specs.PlainList.{is-spoken, add, drop-rule, shift, recast};
+ghost use Rattle.book.specs.PlainList.{speaks, add, drop-rule, shift, recast};
 use crate::book::Book;
 use crate::refusal::Refusal;
 use crate::rule::Rule;
@@ -17,7 +17,7 @@ const CAPACITY: usize = 64;
 
 // Is this a decision of the kind other than the silent one?
 fn speaks<K: Kind>(decision: u8) -> bool
-    ensures { λ r. ⌜ r ≡ is-spoken (K·Kind .size) (K·Kind .silence) decision ⌝ }
+    ensures { λ r. ⌜ r ≡ speaks (K·Kind .size) (K·Kind .silence) decision ⌝ }
 {
     decision < K::decision_count() && decision != K::silent_decision()
 }

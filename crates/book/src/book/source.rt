@@ -6,7 +6,7 @@ ghost use Rattle.packet.specs.Packets.{values, tops};
 ghost use Rattle.packet.specs.Regions.{holds};
 ghost use Rattle.book.specs.Books.{rules-of};
 ghost use Rattle.book.specs.Deciding.{first, meant};
-ghost use Rattle.book.specs.Reach.{nearest, looked-at, whole, all-whole, Stops};
+ghost use Rattle.book.specs.Reach.{whole, all-whole, Stops};
 use crate::book::Book;
 use crate::rule::Rule;
 use decision::Kind;
@@ -49,7 +49,7 @@ fn first_decision(rules: &[Rule], packet: Packet, silent: u8) -> u8
 // The nearest end of the rules looked at, on the field at the index, from the packet's value up.
 fn nearest_end(rules: &[Rule], index: usize, packet: &[u32]) -> u32
     requires { ⌜ index < length tops ⌝ ∗ ⌜ length (now packet) ≡ length tops ⌝ }
-    ensures { λ r. ⌜ r ≡ nearest index (now (packet .entry)) (looked-at index (now (packet .entry)) (now (rules .entry))) ⌝ }
+    ensures { λ r. ⌜ Stops (now (rules .entry)) index (now (packet .entry)) r ⌝ }
 {
     let largest = largest_values();
     let value = packet[index];

@@ -3,7 +3,7 @@ use mathlib.Core.Bool.{_&&_}
 use native.Mathlib.Omega.{arith}
 use lib.ListN.{getD}
 use Rattle.book.specs.Reach.{looked-at}
-use Rattle.book.proofs.Reaches.{nearest-most}
+use Rattle.book.proofs.Reaches.{nearest-most, stops-at}
 use Rattle.book.proofs.Scans.{look-past, look-on, look-outside, look-last, look-end}
 use Rattle.book.proofs.book.source.nearest_end.Needs as need
 use Rattle.book.proofs.book.source.nearest_end.Needs.{then-hold-before·else-contains, else-contains·by·then-contains·else-are-whole-behind, else-contains·by·else-contains, else-hold-before}
@@ -16,7 +16,7 @@ loop-rule-holds c =
 pub returns-then-are-whole-behind : need.returns-then-are-whole-behind
 returns-then-are-whole-behind c =
     let last = look-last (c .args .index) (c .args .packet .now) (c .args .rules .now) (c .loop-rule .rule-index) _ (c .largest-values-largest .ensures) _ (c .loop-rule-test .taken) _ (c .to-array-ranges .ensures) _ (c .run-end .ensures) (c .if-hold-before .ensures tt) (ap₂ (λ a b. a && b) (c .if-contains .ensures tt) (c .if-are-whole-behind .ensures tt)) in
-    omega (arith, last, c .loop-rule .inv .0, c .loop-rule .inv .1, c .min-end .ensures)
+    stops-at (c .args .rules .now) (c .args .index) (c .args .packet .now) (c .min-end .result) (omega (arith, last, c .loop-rule .inv .0, c .loop-rule .inv .1, c .min-end .ensures))
 
 pub loop-rule-again : need.loop-rule-again
 loop-rule-again c = elim (c .if-hold-before .came) [
@@ -36,4 +36,4 @@ loop-rule-again c = elim (c .if-hold-before .came) [
 pub returns : need.returns
 returns c =
     let last = look-end (c .args .index) (c .args .packet .now) (c .args .rules .now) (c .loop-rule .rule-index) _ (c .largest-values-largest .ensures) (c .loop-rule-test .left) in
-    omega (arith, last, c .loop-rule .inv .0, c .loop-rule .inv .1)
+    stops-at (c .args .rules .now) (c .args .index) (c .args .packet .now) (c .loop-rule .end) (omega (arith, last, c .loop-rule .inv .0, c .loop-rule .inv .1))
