@@ -21,7 +21,7 @@ use Rattle.decision.specs.Kinds.{read-word}
 use Rattle.book.specs.declared.rule.Rule.{Rule}
 use Rattle.book.specs.declared.refusal.Refusal.{Refusal}
 use Rattle.book.specs.declared.refusal.Refusal.the-variants.{Full}
-use Rattle.book.specs.PlainList.{Step, taken, refused, is-spoken, add, with-rule}
+use Rattle.book.specs.PlainList.{Step, taken, refused, speaks, add, with-rule}
 use Rattle.text.specs.declared.faults.LineFault.the-variants.{Letter, Word}
 use Rattle.text.specs.declared.faults.ReadFault.the-variants.{Full as FullBook}
 use Rattle.text.specs.Pieces.{pieces}
@@ -120,13 +120,13 @@ module _ (n silent : ℕ) (spelling : ℕ → List ℕ) (number : ℕ) (line : L
   plain-add says end =
       let fit = line-fit (read-word n silent spelling) line rule says in
       let known = read-known n silent spelling (fit .word) (rule .decision) (fit .spoken) in
-      let spoken : not (is-spoken n silent (rule .decision)) ≡ false =
-      not-from-true (is-spoken n silent (rule .decision)) (and-from (ltb (rule .decision) n) (not (eqb (rule .decision) silent)) (lt-ltb (rule .decision) n (known .0)) (not-from-false (eqb (rule .decision) silent) (known .1))) in
+      let spoken : not (speaks n silent (rule .decision)) ≡ false =
+      not-from-true (speaks n silent (rule .decision)) (and-from (ltb (rule .decision) n) (not (eqb (rule .decision) silent)) (lt-ltb (rule .decision) n (known .0)) (not-from-false (eqb (rule .decision) silent) (known .1))) in
       let last : with-rule rules at rule ≡ rules ++ (rule ∷ []) =
       ap₂ (λ (xs ys : List Rule). xs ++ (rule ∷ ys)) (take-all at rules (omega arith)) (drop-all at rules (omega arith)) in
       ap (cond (leb 64 (length rules)) (refused Full rules))
       (cond-false (ltb (length rules) at) _ _ (le-ltb (length rules) at (omega arith)) ∙ cond-false (any-reversed (ranges (rule .region))) _ _ (fit .forward)
-      ∙ cond-false (not (is-spoken n silent (rule .decision))) _ _ spoken ∙ ap (taken tt) last)
+      ∙ cond-false (not (speaks n silent (rule .decision))) _ _ spoken ∙ ap (taken tt) last)
 
   abbrev step : Step (Unit {0})
   step = add n silent rules at rule
