@@ -6,6 +6,7 @@ use Rattle.text.specs.declared.faults.ReadFault.{ReadFault}
 use Rattle.text.specs.declared.faults.ReadFault.the-variants.{Line, Full, Long}
 use Rattle.text.specs.declared.faults.Report.{Report}
 
+-- a report of these numbers
 abbrev pub told : ℕ → ℕ → ℕ → ℕ → Report
 told number layer line column = record { number = number; layer = layer; line = line; column = column }
 

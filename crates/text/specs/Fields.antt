@@ -1,4 +1,4 @@
--- The ranges of a line's words, field by field. Cited by src/regions.rt. Assumes nothing.
+-- The ranges of a line's words, field by field. Cited by src/regions.rt and src/print.rt. Assumes nothing.
 use mathlib.Core.List.{List, [], _∷_}
 use Prim.Native.Nat.{ℕ, _+_}
 use lib.ListN.{length}
@@ -18,7 +18,8 @@ use Rattle.text.specs.Ranges.{range-of}
 abbrev pub fields : List Field
 fields = Source ∷ SourcePort ∷ Destination ∷ DestinationPort ∷ Protocol ∷ []
 
--- the ranges that the words from this column on write, one for each field, or the first fault
+-- the ranges that the words from this column on write, one for each field, or the first fault; a line lacks no word, since its
+-- words are counted first
 unfoldable pub ranges-from : List Field → ℕ → List (List ℕ) → Result (List (Range ℕ)) LineFault
 ranges-from [] column words = Ok []
 ranges-from (field ∷ more) column [] = Err (Words column)

@@ -16,5 +16,6 @@ unfoldable pub letters-from : ℕ → List ℕ → Result (Unit {0}) LetterFault
 letters-from column [] = Ok tt
 letters-from column (b ∷ bs) = cond (is-letter b) (letters-from (column + 1) bs) (Err (record { byte = b; column = column }))
 
+-- the letters of a line, whose first column is 1
 abbrev pub letters-of : List ℕ → Result (Unit {0}) LetterFault
 letters-of line = letters-from 1 line

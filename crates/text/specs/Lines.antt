@@ -27,7 +27,7 @@ abbrev pub decision-of : Option ℕ → Result ℕ LineFault
 decision-of None = Err Decision
 decision-of (Some decision) = Ok decision
 
--- the rule that words write: a decision, and a region from the column behind it and a space on
+-- the rule that words write: a decision, and a region that begins a space behind it
 abbrev pub rule-of : (List ℕ → Option ℕ) → List (List ℕ) → Result Rule LineFault
 rule-of read [] = Err (Words 1)
 rule-of read (w ∷ ws) =

@@ -1,4 +1,4 @@
--- A text cut at a byte. Cited by src/pieces.rt. Assumes nothing.
+-- A text cut at a byte. Cited by src/pieces.rt and by the files that cut lines, words and numbers. Assumes nothing.
 use mathlib.Core.Bool.{cond}
 use mathlib.Core.List.{List, [], _∷_}
 use Prim.Native.Nat.{ℕ, _+_}
@@ -24,6 +24,7 @@ abbrev pub pieces-of : ℕ → Option (RefT (List ℕ)) → List (List ℕ)
 pieces-of sep None = []
 pieces-of sep (Some rest) = pieces sep (rest .now)
 
+-- the pieces that are still to be taken
 abbrev pub left : Pieces → List (List ℕ)
 left s = pieces-of (s .separator) (s .rest)
 

@@ -20,6 +20,7 @@ pub record Reading : Type 0 where
   pub answer : Result (Unit {0}) ReadFault
   pub rules : List Rule
 
+-- reading that ends with this answer and leaves these rules
 abbrev pub ended : Result (Unit {0}) ReadFault → List Rule → Reading
 ended answer rules = record { answer = answer; rules = rules }
 
@@ -29,6 +30,7 @@ added number rules (Err fault) = ended (Err (Line number fault)) rules
 added number rules (Ok None) = ended (Ok tt) rules
 added number rules (Ok (Some rule)) = cond (leb 64 (length rules)) (ended (Err (Full number)) rules) (ended (Ok tt) (rules ++ (rule ∷ [])))
 
+-- a line, added to the rules of the lines before it
 abbrev pub add-line : (List ℕ → Option ℕ) → ℕ → List ℕ → List Rule → Reading
 add-line read number line rules = added number rules (line-of read line)
 
