@@ -7,7 +7,7 @@ use outside::case::Case;
 use outside::model::{Blend, Kind, Packet, Region, FIELDS};
 use outside::packed::pack;
 use outside::stream::{stream, Named, CALLS};
-use outside::text::{read_book, read_range, read_value};
+use outside::text::{read, read_book, read_range, read_value};
 
 const USAGE: &str = "\
 outside CALL [--marks] ...    one call; texts and packed bytes are files, - or nothing is standard input
@@ -20,6 +20,7 @@ outside stream SEED COUNT [CALL]              case lines (of read, if no call is
 outside expect SEED COUNT [CALL]              the expected answers to them
 outside cases SEED COUNT [CALL]               cases with names and answers (of all calls, if none is named)
 outside answer                                the expected answers to case lines from standard input
+outside time TURNS                            how long reading the text on standard input takes
 ";
 
 fn main() -> ExitCode {
@@ -86,10 +87,28 @@ fn run(args: &[String]) -> Result<ExitCode, Trouble> {
                 }
             }
         }
+        "time" => time_reading(args, &mut out)?,
         call => return direct(call, args, out),
     }
     out.flush()?;
     Ok(ExitCode::SUCCESS)
+}
+
+/// How long reading the verdict text on standard input takes, as the mean of so many turns.
+fn time_reading(args: &[String], out: &mut impl Write) -> Result<(), Trouble> {
+    let Some(turns) = args.first().and_then(|turns| turns.parse::<u32>().ok()) else {
+        return usage("a number of turns is wanted");
+    };
+    let mut text = Vec::new();
+    io::stdin().lock().read_to_end(&mut text)?;
+    let mut rules = 0;
+    let start = std::time::Instant::now();
+    for _ in 0..turns {
+        rules = read(Kind::Verdicts, std::hint::black_box(&text)).placed.len();
+    }
+    let each = start.elapsed().as_nanos() / u128::from(turns.max(1));
+    writeln!(out, "outside: {} bytes, {rules} rules, {each} ns a text", text.len())?;
+    Ok(())
 }
 
 fn cases_of(args: &[String], default: Option<&str>) -> Result<Vec<Named>, Trouble> {
