@@ -8,15 +8,18 @@ use native.Mathlib.Numerals.{add-one}
 use lib.ListN.{length, getD, set, take, drop}
 use Rattle.std.specs.Holes.{between}
 use Rattle.std.specs.Orderings.{Decides}
-use Rattle.std.proofs.shelf.Lists.{append-nil, append-assoc, drop-more, drop-all, take-all, take-at, take-set, take-more-set, getD-set-same}
+use Rattle.std.proofs.shelf.Lists.{append-nil, append-assoc, drop-more, drop-all, map-push, take-all, take-at, take-set, take-more-set, getD-set-same}
 use Rattle.packet.specs.declared.range.Range.{Range}
 use Rattle.packet.specs.declared.packet.Packet.{Packet}
 use Rattle.packet.specs.declared.field.Field.{Field}
 use Rattle.packet.specs.declared.field.Field.the-variants.{Source, SourcePort, Destination, DestinationPort, Protocol}
+use Rattle.packet.specs.Regions.{ranges}
 use Rattle.packet.specs.Packets.{values, tops, place, Within}
 use Rattle.policy.specs.Edges.{Edge, Alike}
 use Rattle.theory.specs.Tables.{Row, table, sub-table}
 use Rattle.theory.proofs.Runs.{Constant, sub-table-counts}
+use Rattle.table.specs.declared.row.Row as code
+use Rattle.table.specs.Rows.{plain, view}
 use Rattle.table.specs.Parts.{table-from, whole, uncut, cut-between}
 use Rattle.table.proofs.Built.{Built, built-first, built-next, built-whole, new-counts}
 
@@ -25,14 +28,17 @@ pub uncut-none : (t : List Row) → uncut 0 t ≡ t
 uncut-none [] = refl
 uncut-none (r ∷ t) = ap (λ (a : List Row). r ∷ a) (uncut-none t)
 
--- with no field left there is one row
-pub leaf : (m : List ℕ → ℕ) (f : ℕ) (at : Packet) (d : ℕ) → length tops ≤ f → d ≡ m (values at) → record { ranges = whole; decision = d } ∷ [] ≡ uncut f (table-from m f (values at))
+-- with no field left, one row is put behind the others
+pub leaf : (m : List ℕ → ℕ) (f : ℕ) (at : Packet) → length tops ≤ f → (row : code.Row) → ranges (row .region) ≡ whole → row .decision ≡ m (values at)
+    → (rows all : List code.Row) → all ≡ rows ++ row ∷ []
+    → view all ≡ view rows ++ uncut f (table-from m f (values at))
 unfolding table
-leaf m f at d h e =
+leaf m f at h row w e rows all i =
     let p = values at in
-    let R : List (Range ℕ) → ℕ → List Row = λ a x. record { ranges = a; decision = x } ∷ [] in
-    sym (ap (λ (a : List ℕ). uncut f (table a (λ q. m (take f p ++ q)))) (drop-all f tops h)
-    ∙ ap₂ R (append-nil (take f whole) ∙ take-all f whole h) (ap m (append-nil (take f p) ∙ take-all f p h) ∙ sym e))
+    let R : List (Range ℕ) → ℕ → List Row = λ a x. view rows ++ record { ranges = a; decision = x } ∷ [] in
+    ap view i ∙ map-push plain rows row
+    ∙ ap₂ R (w ∙ sym (append-nil (take f whole) ∙ take-all f whole h)) (e ∙ sym (ap m (append-nil (take f p) ∙ take-all f p h)))
+    ∙ sym (ap (λ (a : List ℕ). view rows ++ uncut f (table a (λ q. m (take f p ++ q)))) (drop-all f tops h))
 
 place-below : (h : Field) → place h < length tops
 place-below Source = omega arith
