@@ -1,13 +1,12 @@
 -- The tests on ranges mean what they say of packets. Assumes nothing.
-use mathlib.Core.Path.{_≡_, refl, sym, ap, ap₂, _∙_}
+use mathlib.Core.Path.{_≡_, refl}
 use mathlib.Core.Logic.{inl, inr}
-use mathlib.Core.Bool.{Bool, true, false, _&&_, _||_}
-use mathlib.Core.List.{List, [], _∷_, map}
-use Prim.Native.Nat.{ℕ, min, max, _≤_, _<_}
+use mathlib.Core.Bool.{true, false}
+use mathlib.Core.List.{List, [], _∷_}
+use Prim.Native.Nat.{ℕ, min, max, _≤_}
 use native.Mathlib.Omega.{arith}
-use lib.Dec.{leb, ltb}
 use Rattle.std.specs.Orderings.{Decides}
-use Rattle.std.proofs.shelf.Tests.{false≢true, both-ways, and-parts, and-from, or-cases, or-parts, or-left, or-right, leb-true, le-leb, ltb-true, ltb-false, cases-bool}
+use Rattle.std.proofs.shelf.Tests.{false≢true, and-parts, and-from, or-cases, or-parts, or-left, or-right, leb-true, le-leb, ltb-true, ltb-false, cases-bool}
 use Rattle.packet.specs.declared.range.Range.{Range}
 use Rattle.packet.specs.Packets.{Within, tops}
 use Rattle.packet.specs.Regions.{inside, reversed, holds, any-reversed, Fit}
@@ -89,6 +88,7 @@ corners-over (r ∷ a) (s ∷ b) h k =
     and-from _ _ (and-from _ _ (le-leb _ _ (inside-parts r (s .low) (l .0) .0)) (le-leb _ _ (inside-parts r (s .high) (u .0) .1))) (corners-over a b (l .1) (u .1))
 
 pub covers-means : (a b : List (Range ℕ)) → Fit tops b → Decides (covers-ranges a b) (Covers a b)
+unfolding Covers
 covers-means a b f = (forth, back)
   where
     forth : covers-ranges a b ≡ true → Covers a b
@@ -142,4 +142,5 @@ held-shares (r ∷ a) (s ∷ b) (v ∷ p) h k =
     and-from _ _ (le-leb (max (r .low) (s .low)) (min (r .high) (s .high)) (omega arith)) (held-shares a b p (x .1) (y .1))
 
 pub shares-means : (a b : List (Range ℕ)) → Fit tops a → Fit tops b → Decides (shares-ranges a b) (Shares a b)
+unfolding Shares
 shares-means a b f g = (λ h. let s = starts-held tops a b f g h in (starts a b, s .0, s .1, s .2), λ s. held-shares a b (s .0) (s .2) (s .3))

@@ -7,14 +7,13 @@ use native.Mathlib.Omega.{arith}
 use lib.ListN.{length, getD, drop}
 use Rattle.std.specs.declared.option.Option.{Option}
 use Rattle.std.specs.declared.option.Option.the-variants.{Some, None}
-use Rattle.std.specs.shelf.Lists.{All}
 use Rattle.std.proofs.shelf.Lists.{drop-more, drop-all}
 use Rattle.packet.specs.Regions.{ranges}
 use Rattle.book.specs.declared.rule.Rule.{Rule}
 use Rattle.findings.specs.declared.finding.Hiding.{Hiding}
 use Rattle.findings.specs.declared.finding.Hiding.the-variants.{Redundant, Shadowed, Generalised, Correlated}
 use Rattle.findings.specs.Overlaps.{Covers, Shares}
-use Rattle.findings.specs.Hidings.{hiding-number, hiding-of, Applies, First, AllFirst}
+use Rattle.findings.specs.Hidings.{hiding-number, hiding-of, Applies, First, FaithfulWith, Faithful}
 
 module _ (a b : Rule) where
   abbrev Over : Type 0
@@ -74,16 +73,16 @@ module _ (a b : Rule) where
       apart s Correlated x = s (x .0)
 
 -- a rule and those from another on: that one, and then the next
-pub later-told : (a : Rule) (rules : List Rule) (second : ℕ) (d : Rule) (h : Option Hiding) → second < length rules → h ≡ hiding-of a (getD rules second d) → First h a (getD rules second d) → All (λ b. First (hiding-of a b) a b) (drop (second + 1) rules) → All (λ b. First (hiding-of a b) a b) (drop second rules)
+pub later-told : (a : Rule) (rules : List Rule) (second : ℕ) (d : Rule) (h : Option Hiding) → second < length rules → h ≡ hiding-of a (getD rules second d) → First h a (getD rules second d) → FaithfulWith a (drop (second + 1) rules) → FaithfulWith a (drop second rules)
 later-told a rules second d h l e t rest =
-    subst (All (λ b. First (hiding-of a b) a b)) (sym (drop-more rules second d l)) (subst (λ o. First o a (getD rules second d)) e t, rest)
+    subst (FaithfulWith a) (sym (drop-more rules second d l)) (subst (λ o. First o a (getD rules second d)) e t, rest)
 
-pub later-told-end : (a : Rule) (rules : List Rule) (second : ℕ) → length rules ≤ second → All (λ b. First (hiding-of a b) a b) (drop second rules)
-later-told-end a rules second l = subst (All (λ b. First (hiding-of a b) a b)) (sym (drop-all second rules l)) tt
+pub later-told-end : (a : Rule) (rules : List Rule) (second : ℕ) → length rules ≤ second → FaithfulWith a (drop second rules)
+later-told-end a rules second l = subst (FaithfulWith a) (sym (drop-all second rules l)) tt
 
 -- the rules from one on: that one with those behind it, and then the next
-pub rule-told : (rules : List Rule) (first : ℕ) (d : Rule) → first < length rules → All (λ b. First (hiding-of (getD rules first d) b) (getD rules first d) b) (drop (first + 1) rules) → AllFirst (drop (first + 1) rules) → AllFirst (drop first rules)
-rule-told rules first d l these rest = subst AllFirst (sym (drop-more rules first d l)) (these, rest)
+pub rule-told : (rules : List Rule) (first : ℕ) (d : Rule) → first < length rules → FaithfulWith (getD rules first d) (drop (first + 1) rules) → Faithful (drop (first + 1) rules) → Faithful (drop first rules)
+rule-told rules first d l these rest = subst Faithful (sym (drop-more rules first d l)) (these, rest)
 
-pub rule-told-end : (rules : List Rule) (first : ℕ) → length rules ≤ first → AllFirst (drop first rules)
-rule-told-end rules first l = subst AllFirst (sym (drop-all first rules l)) tt
+pub rule-told-end : (rules : List Rule) (first : ℕ) → length rules ≤ first → Faithful (drop first rules)
+rule-told-end rules first l = subst Faithful (sym (drop-all first rules l)) tt

@@ -75,10 +75,14 @@ from-rule i (a ∷ rules) = with-later i a (suc i) rules ++ from-rule (suc i) ru
 abbrev pub findings-of : List Rule → List Finding
 findings-of rules = from-rule 0 rules
 
--- for each rule and each rule behind it the tests find the first that applies
-abbrev pub AllFirst : List Rule → Type 0
-AllFirst [] = Unit {0}
-AllFirst (a ∷ rules) = All (λ b. First (hiding-of a b) a b) rules × AllFirst rules
+-- of a rule and each of some later ones the tests find the first that applies
+abbrev pub FaithfulWith : Rule → List Rule → Type 0
+FaithfulWith a rules = All (λ b. First (hiding-of a b) a b) rules
+
+-- of each rule and each rule behind it the tests find the first that applies
+abbrev pub Faithful : List Rule → Type 0
+Faithful [] = Unit {0}
+Faithful (a ∷ rules) = FaithfulWith a rules × Faithful rules
 
 -- the answer: how many findings there are, unless they are more than the entries
 abbrev pub count-of : List Finding → ℕ → Result ℕ TooShort

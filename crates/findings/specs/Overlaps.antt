@@ -9,11 +9,11 @@ use Rattle.packet.specs.Packets.{Within, tops}
 use Rattle.packet.specs.Regions.{holds, any-reversed}
 
 -- a holds every packet that b holds
-abbrev pub Covers : List (Range ℕ) → List (Range ℕ) → Type 0
+unfoldable pub Covers : List (Range ℕ) → List (Range ℕ) → Type 0
 Covers a b = (p : List ℕ) → Within tops p → holds b p ≡ true → holds a p ≡ true
 
 -- some packet is held by both
-abbrev pub Shares : List (Range ℕ) → List (Range ℕ) → Type 0
+unfoldable pub Shares : List (Range ℕ) → List (Range ℕ) → Type 0
 Shares a b = (p : List ℕ) × Within tops p × (holds a p ≡ true) × (holds b p ≡ true)
 
 -- does each range of a reach over the range of b, at both ends?
