@@ -31,6 +31,7 @@ none-held (r ∷ rs) (v ∷ p) h k =
     ]
 
 over-holds : (a b : List (Range ℕ)) (p : List ℕ) → reaches-over a b ≡ true → holds b p ≡ true → holds a p ≡ true
+unfolding reaches-over
 over-holds [] [] p h k = k
 over-holds [] (s ∷ b) p h k = absurd (false≢true h)
 over-holds (r ∷ a) [] p h k = absurd (false≢true h)
@@ -78,7 +79,7 @@ highs-held (t ∷ ts) (r ∷ rs) f h =
 
 -- ranges that hold both corners reach over
 corners-over : (a b : List (Range ℕ)) → holds a (lows b) ≡ true → holds a (highs b) ≡ true → reaches-over a b ≡ true
-unfolding lows highs
+unfolding lows highs reaches-over
 corners-over [] [] h k = refl
 corners-over [] (s ∷ b) h k = absurd (false≢true h)
 corners-over (r ∷ a) [] h k = absurd (false≢true h)
@@ -113,7 +114,7 @@ starts (r ∷ a) [] = []
 starts (r ∷ a) (s ∷ b) = max (r .low) (s .low) ∷ starts a b
 
 starts-held : (ts : List ℕ) (a b : List (Range ℕ)) → Fit ts a → Fit ts b → shares-ranges a b ≡ true → Within ts (starts a b) × (holds a (starts a b) ≡ true) × (holds b (starts a b) ≡ true)
-unfolding starts
+unfolding starts shares-ranges
 starts-held [] [] [] f g h = (tt, refl, refl)
 starts-held [] [] (s ∷ b) f g h = absurd g
 starts-held [] (r ∷ a) b f g h = absurd f
@@ -129,6 +130,7 @@ starts-held (t ∷ ts) (r ∷ a) (s ∷ b) f g h =
     )
 
 held-shares : (a b : List (Range ℕ)) (p : List ℕ) → holds a p ≡ true → holds b p ≡ true → shares-ranges a b ≡ true
+unfolding shares-ranges
 held-shares [] [] p h k = refl
 held-shares [] (s ∷ b) [] h k = absurd (false≢true k)
 held-shares [] (s ∷ b) (v ∷ p) h k = absurd (false≢true h)

@@ -29,6 +29,7 @@ module _ (a b : List (Range ℕ)) (i : ℕ) (d : Range ℕ) (ha : i < length a) 
       unreversed = ap any-reversed (drop-more b i d hb) ∙ ap (λ t. t || any-reversed (drop (i + 1) b)) (sym e)
 
       pub covers-more : getD a i d .low ≤ getD b i d .low → getD b i d .high ≤ getD a i d .high → covers-from passed a b i ≡ covers-from passed a b (i + 1)
+      unfolding reaches-over
       covers-more l h =
           ap₂ (λ t u. t || (passed && u)) unreversed (opened reaches-over)
           ∙ ap₂ (λ s t. any-reversed (drop (i + 1) b) || (passed && (s && t && reaches-over (drop (i + 1) a) (drop (i + 1) b)))) (le-leb _ _ l) (le-leb _ _ h)
@@ -37,22 +38,28 @@ module _ (a b : List (Range ℕ)) (i : ℕ) (d : Range ℕ) (ha : i < length a) 
       fails f = ap₂ _||_ unreversed (and-right passed _ f)
 
       pub covers-low : getD b i d .low < getD a i d .low → covers-from passed a b i ≡ covers-from false a b (i + 1)
+      unfolding reaches-over
       covers-low l = fails (opened reaches-over ∙ and-left _ _ (and-left _ _ (lt-leb _ _ l)))
 
       pub covers-high : getD a i d .high < getD b i d .high → covers-from passed a b i ≡ covers-from false a b (i + 1)
+      unfolding reaches-over
       covers-high h = fails (opened reaches-over ∙ and-left _ _ (and-right _ _ (lt-leb _ _ h)))
 
   module _ (start end : ℕ) (es : start ≡ max (getD a i d .low) (getD b i d .low)) (ee : end ≡ min (getD a i d .high) (getD b i d .high)) where
     pub shares-more : start ≤ end → shares-ranges (drop i a) (drop i b) ≡ shares-ranges (drop (i + 1) a) (drop (i + 1) b)
+    unfolding shares-ranges
     shares-more h = opened shares-ranges ∙ ap (λ s. s && shares-ranges (drop (i + 1) a) (drop (i + 1) b)) (le-leb _ _ (omega (arith, h, es, ee)))
 
     pub shares-none : end < start → shares-ranges (drop i a) (drop i b) ≡ false
+    unfolding shares-ranges
     shares-none h = opened shares-ranges ∙ and-left _ _ (lt-leb (max (getD a i d .low) (getD b i d .low)) (min (getD a i d .high) (getD b i d .high)) (omega (arith, h, es, ee)))
 
 module _ (a b : List (Range ℕ)) (i : ℕ) (ha : length a ≤ i) (hb : length b ≤ i) where
   pub covers-end : (passed : Bool) → covers-from passed a b i ≡ passed
+  unfolding reaches-over
   covers-end true = ap₂ (λ s t. any-reversed t || reaches-over s t) (drop-all i a ha) (drop-all i b hb)
   covers-end false = ap (λ t. any-reversed t || false) (drop-all i b hb)
 
   pub shares-end : shares-ranges (drop i a) (drop i b) ≡ true
+  unfolding shares-ranges
   shares-end = ap₂ shares-ranges (drop-all i a ha) (drop-all i b hb)

@@ -51,10 +51,10 @@ agree a b = eqb (a .decision) (b .decision)
 -- the first finding that applies to a rule and a later one, by these tests
 abbrev pub hiding-of : Rule → Rule → Option Hiding
 hiding-of a b =
-    cond (covers a b && agree a b) (Some Redundant)
+    cond (agree a b && covers a b) (Some Redundant)
     (cond (covers a b) (Some Shadowed)
-    (cond (covers b a && not (agree a b)) (Some Generalised)
-    (cond (shares a b && not (agree a b)) (Some Correlated) None)))
+    (cond (not (agree a b) && covers b a) (Some Generalised)
+    (cond (not (agree a b) && shares a b) (Some Correlated) None)))
 
 -- what is found of rule i and rule j
 abbrev pub found : ℕ → ℕ → Option Hiding → List Finding
