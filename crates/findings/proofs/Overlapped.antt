@@ -1,13 +1,12 @@
 -- The tests on ranges mean what they say of packets. Assumes nothing.
-use mathlib.Core.Path.{_≡_, refl, sym, ap, ap₂, _∙_}
+use mathlib.Core.Path.{_≡_, refl}
 use mathlib.Core.Logic.{inl, inr}
-use mathlib.Core.Bool.{Bool, true, false, _&&_, _||_}
-use mathlib.Core.List.{List, [], _∷_, map}
-use Prim.Native.Nat.{ℕ, min, max, _≤_, _<_}
+use mathlib.Core.Bool.{true, false}
+use mathlib.Core.List.{List, [], _∷_}
+use Prim.Native.Nat.{ℕ, min, max, _≤_}
 use native.Mathlib.Omega.{arith}
-use lib.Dec.{leb, ltb}
 use Rattle.std.specs.Orderings.{Decides}
-use Rattle.std.proofs.shelf.Tests.{false≢true, both-ways, and-parts, and-from, or-cases, or-parts, or-left, or-right, leb-true, le-leb, ltb-true, ltb-false, cases-bool}
+use Rattle.std.proofs.shelf.Tests.{false≢true, and-parts, and-from, or-cases, or-parts, or-left, or-right, leb-true, le-leb, ltb-true, ltb-false, cases-bool}
 use Rattle.packet.specs.declared.range.Range.{Range}
 use Rattle.packet.specs.Packets.{Within, tops}
 use Rattle.packet.specs.Regions.{inside, reversed, holds, any-reversed, Fit}
@@ -32,6 +31,7 @@ none-held (r ∷ rs) (v ∷ p) h k =
     ]
 
 over-holds : (a b : List (Range ℕ)) (p : List ℕ) → reaches-over a b ≡ true → holds b p ≡ true → holds a p ≡ true
+unfolding reaches-over
 over-holds [] [] p h k = k
 over-holds [] (s ∷ b) p h k = absurd (false≢true h)
 over-holds (r ∷ a) [] p h k = absurd (false≢true h)
@@ -79,7 +79,7 @@ highs-held (t ∷ ts) (r ∷ rs) f h =
 
 -- ranges that hold both corners reach over
 corners-over : (a b : List (Range ℕ)) → holds a (lows b) ≡ true → holds a (highs b) ≡ true → reaches-over a b ≡ true
-unfolding lows highs
+unfolding lows highs reaches-over
 corners-over [] [] h k = refl
 corners-over [] (s ∷ b) h k = absurd (false≢true h)
 corners-over (r ∷ a) [] h k = absurd (false≢true h)
@@ -89,6 +89,7 @@ corners-over (r ∷ a) (s ∷ b) h k =
     and-from _ _ (and-from _ _ (le-leb _ _ (inside-parts r (s .low) (l .0) .0)) (le-leb _ _ (inside-parts r (s .high) (u .0) .1))) (corners-over a b (l .1) (u .1))
 
 pub covers-means : (a b : List (Range ℕ)) → Fit tops b → Decides (covers-ranges a b) (Covers a b)
+unfolding Covers
 covers-means a b f = (forth, back)
   where
     forth : covers-ranges a b ≡ true → Covers a b
@@ -113,7 +114,7 @@ starts (r ∷ a) [] = []
 starts (r ∷ a) (s ∷ b) = max (r .low) (s .low) ∷ starts a b
 
 starts-held : (ts : List ℕ) (a b : List (Range ℕ)) → Fit ts a → Fit ts b → shares-ranges a b ≡ true → Within ts (starts a b) × (holds a (starts a b) ≡ true) × (holds b (starts a b) ≡ true)
-unfolding starts
+unfolding starts shares-ranges
 starts-held [] [] [] f g h = (tt, refl, refl)
 starts-held [] [] (s ∷ b) f g h = absurd g
 starts-held [] (r ∷ a) b f g h = absurd f
@@ -129,6 +130,7 @@ starts-held (t ∷ ts) (r ∷ a) (s ∷ b) f g h =
     )
 
 held-shares : (a b : List (Range ℕ)) (p : List ℕ) → holds a p ≡ true → holds b p ≡ true → shares-ranges a b ≡ true
+unfolding shares-ranges
 held-shares [] [] p h k = refl
 held-shares [] (s ∷ b) [] h k = absurd (false≢true k)
 held-shares [] (s ∷ b) (v ∷ p) h k = absurd (false≢true h)
@@ -142,4 +144,5 @@ held-shares (r ∷ a) (s ∷ b) (v ∷ p) h k =
     and-from _ _ (le-leb (max (r .low) (s .low)) (min (r .high) (s .high)) (omega arith)) (held-shares a b p (x .1) (y .1))
 
 pub shares-means : (a b : List (Range ℕ)) → Fit tops a → Fit tops b → Decides (shares-ranges a b) (Shares a b)
+unfolding Shares
 shares-means a b f g = (λ h. let s = starts-held tops a b f g h in (starts a b, s .0, s .1, s .2), λ s. held-shares a b (s .0) (s .2) (s .3))

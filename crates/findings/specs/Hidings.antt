@@ -51,10 +51,10 @@ agree a b = eqb (a .decision) (b .decision)
 -- the first finding that applies to a rule and a later one, by these tests
 abbrev pub hiding-of : Rule → Rule → Option Hiding
 hiding-of a b =
-    cond (covers a b && agree a b) (Some Redundant)
+    cond (agree a b && covers a b) (Some Redundant)
     (cond (covers a b) (Some Shadowed)
-    (cond (covers b a && not (agree a b)) (Some Generalised)
-    (cond (shares a b && not (agree a b)) (Some Correlated) None)))
+    (cond (not (agree a b) && covers b a) (Some Generalised)
+    (cond (not (agree a b) && shares a b) (Some Correlated) None)))
 
 -- what is found of rule i and rule j
 abbrev pub found : ℕ → ℕ → Option Hiding → List Finding
@@ -75,10 +75,14 @@ from-rule i (a ∷ rules) = with-later i a (suc i) rules ++ from-rule (suc i) ru
 abbrev pub findings-of : List Rule → List Finding
 findings-of rules = from-rule 0 rules
 
--- for each rule and each rule behind it the tests find the first that applies
-abbrev pub AllFirst : List Rule → Type 0
-AllFirst [] = Unit {0}
-AllFirst (a ∷ rules) = All (λ b. First (hiding-of a b) a b) rules × AllFirst rules
+-- of a rule and each of some later ones the tests find the first that applies
+abbrev pub FaithfulWith : Rule → List Rule → Type 0
+FaithfulWith a rules = All (λ b. First (hiding-of a b) a b) rules
+
+-- of each rule and each rule behind it the tests find the first that applies
+abbrev pub Faithful : List Rule → Type 0
+Faithful [] = Unit {0}
+Faithful (a ∷ rules) = FaithfulWith a rules × Faithful rules
 
 -- the answer: how many findings there are, unless they are more than the entries
 abbrev pub count-of : List Finding → ℕ → Result ℕ TooShort

@@ -9,15 +9,15 @@ use Rattle.packet.specs.Packets.{Within, tops}
 use Rattle.packet.specs.Regions.{holds, any-reversed}
 
 -- a holds every packet that b holds
-abbrev pub Covers : List (Range ℕ) → List (Range ℕ) → Type 0
+unfoldable pub Covers : List (Range ℕ) → List (Range ℕ) → Type 0
 Covers a b = (p : List ℕ) → Within tops p → holds b p ≡ true → holds a p ≡ true
 
 -- some packet is held by both
-abbrev pub Shares : List (Range ℕ) → List (Range ℕ) → Type 0
+unfoldable pub Shares : List (Range ℕ) → List (Range ℕ) → Type 0
 Shares a b = (p : List ℕ) × Within tops p × (holds a p ≡ true) × (holds b p ≡ true)
 
 -- does each range of a reach over the range of b, at both ends?
-abbrev pub reaches-over : List (Range ℕ) → List (Range ℕ) → Bool
+unfoldable pub reaches-over : List (Range ℕ) → List (Range ℕ) → Bool
 reaches-over [] [] = true
 reaches-over [] (s ∷ b) = false
 reaches-over (r ∷ a) [] = false
@@ -28,7 +28,7 @@ abbrev pub covers-ranges : List (Range ℕ) → List (Range ℕ) → Bool
 covers-ranges a b = any-reversed b || reaches-over a b
 
 -- the test for Shares: on each field the later start is not after the earlier end
-abbrev pub shares-ranges : List (Range ℕ) → List (Range ℕ) → Bool
+unfoldable pub shares-ranges : List (Range ℕ) → List (Range ℕ) → Bool
 shares-ranges [] [] = true
 shares-ranges [] (s ∷ b) = false
 shares-ranges (r ∷ a) [] = false

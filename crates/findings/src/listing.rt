@@ -4,7 +4,7 @@ ghost use Prim.Native.Nat.{_≤_};
 ghost use lib.ListN.{length};
 ghost use lib.Seq.{sets};
 ghost use Rattle.book.specs.Books.{rules-of};
-ghost use Rattle.findings.specs.Hidings.{hiding-of, First, findings-of, AllFirst, count-of, entries-after};
+ghost use Rattle.findings.specs.Hidings.{hiding-of, First, findings-of, Faithful, count-of, entries-after};
 use crate::finding::Finding;
 use crate::finding::Hiding;
 use crate::finding::TooShort;
@@ -18,7 +18,7 @@ use decision::Kind;
 pub fn findings<K: Kind>(book: &Book<K>, entries: &mut [Finding]) -> Result<usize, TooShort>
     ensures answer { λ r. ⌜ r ≡ count-of (findings-of (rules-of (now (book .entry)))) (length (now (entries .entry))) ⌝ }
     ensures entries { λ _. ⌜ now (entries .exit) ≡ entries-after (findings-of (rules-of (now (book .entry)))) (now (entries .entry)) ⌝ }
-    ensures packets { λ _. ⌜ AllFirst (rules-of (now (book .entry))) ⌝ }
+    ensures packets { λ _. ⌜ Faithful (rules-of (now (book .entry))) ⌝ }
 {
     let rules = book.rules();
     let count = list(rules, &mut []);
@@ -33,7 +33,7 @@ fn list(rules: &[Rule], entries: &mut [Finding]) -> usize
     requires { ⌜ length (now rules) ≤ 64 ⌝ }
     ensures count { λ r. ⌜ r ≡ length (findings-of (now (rules .entry))) ⌝ }
     ensures entries { λ _. ⌜ now (entries .exit) ≡ sets (now (entries .entry)) 0 (findings-of (now (rules .entry))) ⌝ }
-    ensures packets { λ _. ⌜ AllFirst (now (rules .entry)) ⌝ }
+    ensures packets { λ _. ⌜ Faithful (now (rules .entry)) ⌝ }
 {
     let mut count = 0;
     for first in 0..rules.len() {

@@ -8,7 +8,7 @@ use Rattle.std.specs.declared.result.Result.the-variants.{Ok}
 use Rattle.std.proofs.shelf.Tests.{le-ltb, cond-false}
 use Rattle.book.specs.declared.rule.Rule.{Rule}
 use Rattle.book.specs.Books.{rules-of}
-use Rattle.findings.specs.Hidings.{findings-of, AllFirst}
+use Rattle.findings.specs.Hidings.{findings-of, Faithful}
 use Rattle.findings.proofs.Listed.{written-over}
 use Rattle.findings.proofs.listing.findings.Needs as need
 
@@ -22,5 +22,5 @@ returns g c =
     record {
       answer = ap Ok (c .list .ensures .count ∙ counted) ∙ sym (cond-false _ _ _ room);
       entries = c .list .ensures .entries ∙ ap (λ (rules : List Rule). sets entries 0 (findings-of rules)) (c .rules-rules .ensures) ∙ written-over all entries fits ∙ sym (cond-false _ _ _ room);
-      packets = subst AllFirst (c .rules-rules .ensures) (c .list .ensures .packets);
+      packets = subst Faithful (c .rules-rules .ensures) (c .list .ensures .packets);
     }

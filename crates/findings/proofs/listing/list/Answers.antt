@@ -8,9 +8,6 @@ use Rattle.findings.proofs.Told.{later-told, later-told-end, rule-told, rule-t
 use Rattle.findings.proofs.listing.list.Needs as need
 use Rattle.findings.proofs.listing.list.Needs.{in-Some, then-count-entries, else-count-entries, in-rest}
 
-pub loop-first-holds : need.loop-first-holds
-loop-first-holds c = (record { written = refl; counted = refl }, λ t. t)
-
 pub loop-second-holds : need.loop-second-holds
 loop-second-holds c = (record { written = refl; counted = refl }, λ t. t)
 

@@ -1,7 +1,7 @@
 use mathlib.Core.Path.{_≡_}
 use lib.ListN.{drop}
 use Rattle.findings.specs.Overlaps.{shares-ranges}
-use Rattle.findings.proofs.overlap.meet_everywhere.Given as given
+use Rattle.findings.proofs.overlap.meet.Given as given
 
 -- what is left passes exactly if all does
 abbrev pub Inv-loop-i : given.InvT-loop-i
