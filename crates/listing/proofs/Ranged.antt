@@ -32,22 +32,22 @@ abbrev pub top : Field → ℕ
 top field = getD tops (place field) 0
 
 -- a word of these bytes, neither empty nor longer than so many
-pub record Wordly (low most : ℕ) (w : List ℕ) : Type 0 where
+pub record Spelled (low most : ℕ) (w : List ℕ) : Type 0 where
   pub bytes : Between low 57 w
   pub some : 0 < length w
   pub short : length w ≤ most
 
-decimal-word : (n : ℕ) → n ≤ 65535 → Wordly 46 15 (decimal n)
+decimal-word : (n : ℕ) → n ≤ 65535 → Spelled 46 15 (decimal n)
 decimal-word n h = record {
   bytes = wider 48 57 46 57 (decimal n) (omega arith) (omega arith) (decimal-bytes n (omega arith));
   some = decimal-some n (omega arith);
   short = omega (arith, length-decimal-le 5 n (omega arith) (omega arith) (omega arith));
 }
 
-address-word : (n : ℕ) → Wordly 46 15 (value-text Source n)
+address-word : (n : ℕ) → Spelled 46 15 (value-text Source n)
 address-word n = record { bytes = address-bytes 3 n; some = address-some 3 n; short = address-short 3 n }
 
-value-word : (field : Field) (n : ℕ) → n ≤ top field → Wordly 46 15 (value-text field n)
+value-word : (field : Field) (n : ℕ) → n ≤ top field → Spelled 46 15 (value-text field n)
 value-word Source n h = address-word n
 value-word SourcePort n h = decimal-word n h
 value-word Destination n h = address-word n
@@ -74,10 +74,10 @@ module _ (field : Field) (r : Range ℕ) (sound : Sound (top field) r) where
   abbrev second : List ℕ
   second = value-text field (r .high)
 
-  first-word : Wordly 46 15 first
+  first-word : Spelled 46 15 first
   first-word = value-word field (r .low) (sound .low-within)
 
-  second-word : Wordly 46 15 second
+  second-word : Spelled 46 15 second
   second-word = value-word field (r .high) (sound .high-within)
 
   both-bytes : Between 45 57 (first ++ (45 ∷ second))
@@ -122,13 +122,13 @@ module _ (field : Field) (r : Range ℕ) (sound : Sound (top field) r) where
     ]
   ]
 
-  pub range-bytes : Wordly 42 31 (range-text field r)
+  pub range-bytes : Spelled 42 31 (range-text field r)
   range-bytes = elim (cases-bool (whole field r)) [
-    | inl is ↦ subst (Wordly 42 31) (sym (range-whole field r (sym is))) (record { bytes = ((omega arith, omega arith), tt); some = omega arith; short = omega arith })
+    | inl is ↦ subst (Spelled 42 31) (sym (range-whole field r (sym is))) (record { bytes = ((omega arith, omega arith), tt); some = omega arith; short = omega arith })
     | inr is ↦ elim (cases-bool (eqb (r .low) (r .high))) [
-      | inl same ↦ subst (Wordly 42 31) (sym (range-single field r (sym is) (eqb-true (r .low) (r .high) same)))
+      | inl same ↦ subst (Spelled 42 31) (sym (range-single field r (sym is) (eqb-true (r .low) (r .high) same)))
           (record { bytes = wider 46 57 42 57 first (omega arith) (omega arith) (first-word .bytes); some = first-word .some; short = omega (arith, first-word .short) })
-      | inr other ↦ subst (Wordly 42 31) (sym (range-double field r (sym is) (eqb-false (r .low) (r .high) other)))
+      | inr other ↦ subst (Spelled 42 31) (sym (range-double field r (sym is) (eqb-false (r .low) (r .high) other)))
           (record { bytes = wider 45 57 42 57 _ (omega arith) (omega arith) both-bytes; some = omega (arith, length-append first (45 ∷ second)); short = omega (arith, length-append first (45 ∷ second), first-word .short, second-word .short) })
     ]
   ]

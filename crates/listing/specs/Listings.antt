@@ -17,7 +17,7 @@ abbrev pub rules-text : (ℕ → List ℕ) → List Rule → List ℕ
 rules-text spelling [] = []
 rules-text spelling (rule ∷ rules) = line-text spelling (rule .decision) (ranges (rule .region)) ++ (codes "\n" ++ rules-text spelling rules)
 
--- does each rule decide, with a decision of the kind that is not the silent one?
+-- is each rule's decision one of the kind, and not the silent one?
 abbrev pub all-speak : ℕ → ℕ → List Rule → Bool
 all-speak count silent [] = true
 all-speak count silent (rule ∷ rules) = speaks count silent (rule .decision) && all-speak count silent rules
