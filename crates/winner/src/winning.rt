@@ -1,7 +1,6 @@
 // The winning line of two texts.
 ghost use Rattle.packet.specs.Packets.{values};
 ghost use Rattle.decision.specs.Kinds.{read-word};
-ghost use Rattle.text.specs.Readings.{read-of};
 ghost use Rattle.text.specs.DecidingLines.{place-of};
 ghost use Rattle.winner.specs.Winners.{Wins, Settles};
 use decision::Kind;
@@ -29,8 +28,8 @@ pub fn winner<'a, K: Kind>(
     second: &'a [u8],
     packet: Packet,
 ) -> Result<Option<WinningLine<'a>>, WinnerFault>
-    ensures place { λ r. ⌜ Wins r (first .entry) (second .entry) (place-of (read-word (K·Kind .size) (K·Kind .silence) (K·Kind .spelling)) (values packet) (now (first .entry))) (place-of (read-word (K·Kind .size) (K·Kind .silence) (K·Kind .spelling)) (values packet) (now (second .entry))) ⌝ }
-    ensures decision { λ r. ⌜ Settles (K·Kind .size) (K·Kind .silence) (read-word (K·Kind .size) (K·Kind .silence) (K·Kind .spelling)) (values packet) (read-of (read-word (K·Kind .size) (K·Kind .silence) (K·Kind .spelling)) (now (first .entry)) .rules) (read-of (read-word (K·Kind .size) (K·Kind .silence) (K·Kind .spelling)) (now (second .entry)) .rules) r ⌝ }
+    ensures place { λ r. ⌜ Wins r (first .entry) (second .entry) (place-of (read-word (K·Kind .size) (K·Kind .silence) (K·Kind .spelling)) (values packet)) ⌝ }
+    ensures decision { λ r. ⌜ Settles (K·Kind .size) (K·Kind .silence) (read-word (K·Kind .size) (K·Kind .silence) (K·Kind .spelling)) (values packet) (now (first .entry)) (now (second .entry)) r ⌝ }
 {
     let upper = match deciding_line::<K>(first, packet) {
         Ok(line) => line,
