@@ -107,7 +107,8 @@ fn time_reading(args: &[String], out: &mut impl Write) -> Result<(), Trouble> {
         rules = read(Kind::Verdicts, std::hint::black_box(&text)).placed.len();
     }
     let each = start.elapsed().as_nanos() / u128::from(turns.max(1));
-    writeln!(out, "outside: {} bytes, {rules} rules, {each} ns a text", text.len())?;
+    let pico = each * 1_000 / text.len().max(1) as u128;
+    writeln!(out, "outside: {} bytes, {rules} rules, {each} ns a text, {pico} ps a byte", text.len())?;
     Ok(())
 }
 

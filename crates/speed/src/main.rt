@@ -28,9 +28,10 @@ fn main(rt: LibcRuntime) -> Result<(), AnyError> {
     let rules = book.rules().len();
     let bytes = text.len();
     let each = nanos / u128::from(turns.max(1));
+    let pico = nanos / u128::from(turns.max(1)) % 1_000_000_000 * 1_000 / text.len().max(1) as u128;
     println!(
         rt,
-        "proved: {bytes} bytes, {rules} rules, taken {taken} of {turns} times, {each} ns a text"
+        "proved: {bytes} bytes, {rules} rules, taken {taken} of {turns} times, {each} ns a text, {pico} ps a byte"
     )?;
     Ok(())
 }
