@@ -40,11 +40,9 @@ fn count_line<K: Kind>(count: usize, number: usize, text: &[u8]) -> Result<usize
 
 // Does the text read well?
 fn check<K: Kind>(text: &[u8]) -> Result<(), ReadFault>
+    requires { ⌜ length (now text) ≤ 16384 ⌝ }
     ensures { λ r. ⌜ r ≡ read-of (read-word (K·Kind .size) (K·Kind .silence) (K·Kind .spelling)) (now (text .entry)) .answer ⌝ }
 {
-    if text.len() > LIMIT {
-        return Err(ReadFault::Long);
-    }
     let mut lines = Pieces::new(text, b'\n');
     let mut number = 0;
     let mut count = 0;
@@ -91,6 +89,9 @@ pub fn deciding_line<'a, K: Kind>(
     ensures place { λ r. ⌜ Borrowed r (text .entry) (place-of (read-word (K·Kind .size) (K·Kind .silence) (K·Kind .spelling)) (values packet) (now (text .entry))) ⌝ }
     ensures decision { λ r. ⌜ Decides (K·Kind .size) (K·Kind .silence) (read-word (K·Kind .size) (K·Kind .silence) (K·Kind .spelling)) (values packet) (read-of (read-word (K·Kind .size) (K·Kind .silence) (K·Kind .spelling)) (now (text .entry)) .rules) r ⌝ }
 {
+    if text.len() > LIMIT {
+        return Err(ReadFault::Long);
+    }
     check::<K>(text)?;
     Ok(first_line::<K>(text, packet))
 }

@@ -4,7 +4,8 @@
 // (pieces). A lexer hands the words of a line on as tokens with their columns, and each layer above adds what it knows: letters,
 // numbers, ranges, regions, a line, the text. The faults of one layer are carried whole by the next (faults). The contract that
 // matters most is that of `read`: its answer, and the rules that the book then holds, are those of specs/Readings.antt, whatever
-// the bytes are. `print_line` writes the form that `read` reads. Rests on packet, decision and book.
+// the bytes are. `deciding_line` finds the line that decides a packet without a book (specs/DecidingLines.antt). `print_line` writes
+// the form that `read` reads. Rests on packet, decision and book.
 pub mod deciding;
 pub mod faults;
 mod letters;
