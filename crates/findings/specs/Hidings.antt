@@ -26,7 +26,7 @@ hiding-number Shadowed = 2
 hiding-number Generalised = 3
 hiding-number Correlated = 4
 
--- does a finding apply to a rule a and a later rule b?
+-- a finding applies to a rule a and a later rule b
 abbrev pub Applies : Hiding → Rule → Rule → Type 0
 Applies Redundant a b = Covers (ranges (a .region)) (ranges (b .region)) × (a .decision ≡ b .decision)
 Applies Shadowed a b = Covers (ranges (a .region)) (ranges (b .region))
@@ -38,13 +38,15 @@ abbrev pub First : Option Hiding → Rule → Rule → Type 0
 First (Some h) a b = Applies h a b × ((g : Hiding) → hiding-number g < hiding-number h → Applies g a b → ⊥)
 First None a b = (g : Hiding) → Applies g a b → ⊥
 
--- does a's region cover b's? do they share a packet? are their decisions equal? By tests on ranges
+-- does a's region cover b's, by the test on ranges?
 abbrev pub covers : Rule → Rule → Bool
 covers a b = covers-ranges (ranges (a .region)) (ranges (b .region))
 
+-- do a's and b's regions share a packet, by the test on ranges?
 abbrev pub shares : Rule → Rule → Bool
 shares a b = shares-ranges (ranges (a .region)) (ranges (b .region))
 
+-- are the decisions of a and b equal?
 abbrev pub agree : Rule → Rule → Bool
 agree a b = eqb (a .decision) (b .decision)
 
@@ -88,6 +90,6 @@ Faithful (a ∷ rules) = FaithfulWith a rules × Faithful rules
 abbrev pub count-of : List Finding → ℕ → Result ℕ TooShort
 count-of list room = cond (ltb room (length list)) (Err (record {})) (Ok (length list))
 
--- the entries afterwards: the findings and then the entries that stay, or if there are too many findings all as it was
+-- the entries afterwards: the findings and then the entries that stay, or all as they were if the findings are more than the entries
 abbrev pub entries-after : List Finding → List Finding → List Finding
 entries-after list entries = cond (ltb (length entries) (length list)) entries (list ++ drop (length list) entries)

@@ -1,7 +1,8 @@
 // Findings: the pairs of a book's rules that hide each other.
 //
-// `findings` lists them; whether one region covers another, or shares a packet with it, is tested on their ranges and proved to
-// mean what it says of packets. Rests on packet and book.
+// `findings` lists them in order, and answers and writes what specs/Hidings.antt defines. Whether one region covers another, or
+// shares a packet with it, is tested on their ranges (`covers`, `shares`) and proved to mean what it says of packets; so each pair
+// gets the first finding that applies to its packets. Rests on packet, decision and book.
 pub mod finding;
 pub mod listing;
 pub mod overlap;

@@ -24,7 +24,7 @@ loop-second-again c = (
         let x : Finding = record { first = c .loop-first .first; second = c .loop-second .second; hiding = w .in-Some .hiding } in
         let stored : w .if-count-entries .entries ≡ set (c .loop-second .entries) (c .loop-second .count) x = elim (w .if-count-entries .came) [
           | then-count-entries v ↦ v .entries-is
-          | else-count-entries v ↦ v .entries-is ∙ sym (set-past _ _ x (v .if-count-entries .left))
+          | else-count-entries v ↦ v .entries-is ∙ sym (set-past _ _ x (omega (arith, v .if-count-entries .left)))
         ] in
         leads-more (w .entries-is ∙ stored) (w .count-is) (leads-same (later-more _ _ _ _ _ _ _ (c .loop-second-test .taken) (w .in-Some .ensures tt .test)) (c .loop-second .inv .0))
     | in-rest w ↦ leads-at (w .entries-is) (w .count-is) (leads-same (later-more _ _ _ _ _ _ _ (c .loop-second-test .taken) (w .in-rest .ensures tt .test)) (c .loop-second .inv .0))
