@@ -1,8 +1,8 @@
 // Packets, their fields, and regions of packets.
 //
 // A packet is five numbers, a region five ranges, and both are read by specs/ as lists with one element for each field, in the
-// order of `Field`. The list `tops` of the fields' largest values is the only place where the number of fields and their sizes
-// are said, so that what is proved over lists holds for any number of fields. Rests on nothing; every other crate rests on it.
+// order of `Field`. In the definitions the list `tops` of the fields' largest values alone says how many fields there are and how
+// large their values get, so that what is proved over lists holds for any number of fields. Rests on nothing.
 pub mod field;
 pub mod packet;
 pub mod range;
