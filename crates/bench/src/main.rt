@@ -1,4 +1,6 @@
 // The bench tool: verdict text on standard input, the rows of its table on standard output.
+#![tactic(auto)]
+
 use anyhow::anyhow;
 use decision::Verdicts;
 use report::{Output, rows_report};

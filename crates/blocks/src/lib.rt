@@ -3,6 +3,8 @@
 // specs/Numbers.antt has numbers as bytes, specs/Writing.antt the blocks of a list of rows, specs/Reading.antt the rows that blocks
 // hold. proofs/ show that each undoes the other. The code here is what a writer and a reader share: the sizes, and a block's check.
 // Rests on packet and theory, for ranges and rows; crate pack writes this form and crate opening reads it.
+#![tactic(auto)]
+
 pub mod check;
 
 pub use check::check_sum;

@@ -1,5 +1,7 @@
 // Runs cases, one to a line, and prints what the tool answers. What it must print comes from an implementation that shares
 // nothing with the tool but its rules.
+#![tactic(auto)]
+
 mod packed;
 #[cfg(test)]
 mod tests;

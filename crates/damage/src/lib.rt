@@ -2,6 +2,8 @@
 //
 // `Damage` has the refusals 11 to 16 with their places; when each is answered stands in crate opening's specs/Damages.antt. Rests
 // on nothing.
+#![tactic(auto)]
+
 pub mod damage;
 pub mod refusal;
 

@@ -2,6 +2,8 @@
 //
 // A kind's decisions are the numbers below its count. What a kind owes is the trait `Kind`: its laws stand in specs/Kinds.antt,
 // and each kind shows them for its own decisions. Rests on nothing.
+#![tactic(auto)]
+
 pub mod kind;
 pub mod marks;
 pub mod verdicts;

@@ -4,6 +4,8 @@
 // damage is stands in specs/Damages.antt, and `open` promises the rest: the opened rows are the one table of what they decide, so
 // that they decide as what was packed and pack to the same bytes again. Rests on policy for sources, on theory for tables and on
 // blocks for the packed form.
+#![tactic(auto)]
+
 mod alike;
 mod framing;
 pub mod inspection;

@@ -2,6 +2,8 @@
 //
 // `Source` is the interface: decide answers a source's meaning, edge how far along a field nothing changes. A layer holds its
 // sources by value and is a source again, so that piles of layers need no proof of their own. Rests on packet and decision.
+#![tactic(auto)]
+
 pub mod join;
 pub mod meet;
 pub mod over;

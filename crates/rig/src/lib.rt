@@ -2,6 +2,8 @@
 //
 // `kusucopper_decide` is built into a static library, and rig/kusucopper.h declares it. It opens the bytes with the kind of verdicts,
 // for one question, and allocates nothing. Its contract says which number comes back, for any bytes. Rests on opening.
+#![tactic(auto)]
+
 ghost use Rattle.std.specs.Prelude.{◌≡◌, [], ◌∷◌};
 ghost use Rattle.rig.specs.Calls.{answer};
 

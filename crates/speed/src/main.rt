@@ -1,6 +1,8 @@
 // Measures: `speed read TURNS`, or `speed TURNS`, reads the rule text on standard input that many times, `speed pack TURNS` packs its
 // rules that many times, and each prints what one turn took. Without arguments it does nothing. benchmarks/ runs it beside an
 // independent implementation.
+#![tactic(auto)]
+
 use anyhow::anyhow;
 use book::Book;
 use decision::Verdicts;

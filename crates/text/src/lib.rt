@@ -6,6 +6,8 @@
 // matters most is that of `read`: its answer, and the rules that the book then holds, are those of specs/Readings.antt, whatever
 // the bytes are. `deciding_line` finds the line that decides a packet without a book (specs/DecidingLines.antt). `print_line` writes
 // the form that `read` reads. Rests on packet, decision and book.
+#![tactic(auto)]
+
 pub mod deciding;
 pub mod faults;
 mod letters;

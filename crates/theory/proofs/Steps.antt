@@ -1,7 +1,7 @@
 -- The stepwise test passes exactly the nested rows. Assumes nothing.
 use Rattle.std.proofs.Common.{◌≡◌, ℕ, zero, suc, ◌<◌, ◌≤◌, Bool, true, false, cond, ◌&&◌, eqb, ◌⊎◌, List, [], ◌∷◌, ◌++◌, length, get_or, take, sym, refl, ap, ◌∙◌, subst, ap₂, inl, inr, append_assoc, append-nil, arith, take-suc}
 use mathlib.Core.List.{map-append}
-use mathlib.Core.Bool.{and_assoc, and_true}
+use mathlib.Core.Bool.{and_assoc, and-true}
 use mathlib.Core.Option.{Option, none, some}
 use Rattle.std.proofs.lemmas.List.{take_all}
 use Rattle.std.proofs.lemmas.Bool.{false≢true, cases_lt, and_parts, and_from, eqb-true, eq-eqb, ne_eqb, leb-true, le-leb}
@@ -277,7 +277,7 @@ more_begins tops rows more n = (and_parts _ _ (sym (walk-append tops none rows m
 -- the first row's step: its ranges fit and are at the start
 pub begins_first : (tops : List ℕ) (rows : List Row) → 0 < length rows → begins tops (take 1 rows) ≡ (fits tops (ranges_at rows 0) && at_start (ranges_at rows 0))
 begins_first tops [] h = absurd (omega arith)
-begins_first tops (r ∷ rows) h = and_true (fits tops r.ranges && at_start r.ranges)
+begins_first tops (r ∷ rows) h = and-true (fits tops r.ranges && at_start r.ranges)
 
 last_take : (o : Option (List (Range ℕ))) (rows : List Row) (i : ℕ) → i < length rows → last o (take (suc i) rows) ≡ some (ranges_at rows i)
 last_take o [] i h = absurd (omega arith)
@@ -291,7 +291,7 @@ begins_step tops rows i h b =
     let d : Row = record { ranges = []; decision = 0 } in
     ap (begins tops) (take-suc rows (suc i) d h)
     ∙ walk-append tops none (take (suc i) rows) (get_or rows (suc i) d ∷ [])
-    ∙ rw (b, last_take none rows i (omega arith)) (and_true _)
+    ∙ rw (b, last_take none rows i (omega arith)) (and-true _)
 
 -- rows that are begun pass if the last one is at its end
 pub passes_end : (tops : List ℕ) (rows : List Row) (i : ℕ) → length rows ≡ suc i → begins tops rows ≡ true → passes tops rows ≡ at_end tops (ranges_at rows i)

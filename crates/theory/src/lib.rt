@@ -4,3 +4,4 @@
 // builds the one list of rows with all three, the table of the meaning. proofs/Theorems.antt shows that it has them;
 // proofs/Runs.antt, how it is built from left to right. Rests on packet, for ranges and packets; the contracts of crate table
 // cite both.
+#![tactic(auto)]
