@@ -15,10 +15,10 @@ take_min xs k n e = elim (cases_lt (length xs) n) [
 
 part : (c : goal.After-from) → c.from.result * (c.loop-index.index + 1) ≤ 255 * 508
 part c =
-    mul-le c.from.result (c.loop-index.index + 1) 255 508 (omega (arith, c.from.ensures, c.type-inv.block c.loop-index.index)) (omega (arith, c.loop-index-test.true, c.min-index-end.ensures))
+    mul-le c.from.result (c.loop-index.index + 1) 255 508 (omega (arith, c.from.ensures, c.type_inv.block c.loop-index.index)) (omega (arith, c.loop-index-test.true, c.min-index-end.ensures))
 
-pub overflow-add-sum-in-loop-index : goal.overflow-add-sum-in-loop-index
-overflow-add-sum-in-loop-index c = omega (arith, part c, c.loop-index.invariant.1, c.loop-index-test.true, c.min-index-end.ensures)
+pub overflow_add-sum-in-loop-index : goal.overflow_add-sum-in-loop-index
+overflow_add-sum-in-loop-index c = omega (arith, part c, c.loop-index.invariant.1, c.loop-index-test.true, c.min-index-end.ensures)
 
 pub loop-index-preserved : goal.loop-index-preserved
 loop-index-preserved c =

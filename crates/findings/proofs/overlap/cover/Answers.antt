@@ -5,18 +5,18 @@ use Rattle.findings.proofs.Overlapped.{covers_means}
 use Rattle.findings.proofs.overlap.cover.Goals as goal
 use Rattle.findings.proofs.overlap.cover.Goals.{then-one-other, else-one-other+else-other-one}
 
-pub returns-then-is-reversed : goal.returns-then-is-reversed
-returns-then-is-reversed c =
+pub returns-then-is_reversed : goal.returns-then-is_reversed
+returns-then-is_reversed c =
     let ha : c.loop-i.i < length c.args.wide.now = omega arith in
     let hb : c.loop-i.i < length c.args.narrow.now = omega arith in
-    let test = sym (c.loop-i.invariant ∙ covers-reversed _ _ _ _ ha hb _ c.if-is-reversed.ensures) in
+    let test = sym (c.loop-i.invariant ∙ covers-reversed _ _ _ _ ha hb _ c.if-is_reversed.ensures) in
     record { test = test; packets = Decides-at _ _ test (covers_means _ _ c.requires.fit) }
 
 pub loop-i-preserved : goal.loop-i-preserved
 loop-i-preserved c =
     let ha : c.loop-i.i < length c.args.wide.now = omega arith in
     let hb : c.loop-i.i < length c.args.narrow.now = omega arith in
-    let forward = c.if-is-reversed.ensures in
+    let forward = c.if-is_reversed.ensures in
     elim c.if-one-other.branch [
       | then-one-other w ↦
           elim w.then-one-other.either [

@@ -14,8 +14,8 @@ use Rattle.listing.proofs.listing.push_rules.Goals as goal
 pub loop-rule-preserved : goal.loop-rule-preserved
 unfolding encode
 loop-rule-preserved g c = (
-  listed_more g.K.Kind.spelling c.rules-rules.result.now _ c.loop-rule.rule-index _ _ _ _ c.loop-rule-test.true c.in-ok-print-line.ensures c.in-ok-push.ensures.bytes c.loop-rule.invariant.0,
-  All-more _ c.rules-rules.result.now c.loop-rule.rule-index _ c.loop-rule-test.true c.loop-rule.invariant.1 c.to-array.ensures.fit,
+  listed_more g.K.Kind.spelling c.rules-rules.result.now _ c.loop-rule.rule-index _ _ _ _ c.loop-rule-test.true c.in_ok-print_line.ensures c.in_ok-push.ensures.bytes c.loop-rule.invariant.0,
+  All-more _ c.rules-rules.result.now c.loop-rule.rule-index _ c.loop-rule-test.true c.loop-rule.invariant.1 c.to_array.ensures.fit,
 )
 
 pub returns : goal.returns

@@ -16,40 +16,40 @@ changed p q f v w h k e = subst (Within tops) (sym e) (within_set tops p f v w h
 
 pub returns-then-field-ge-COUNT : goal.returns-then-field-ge-COUNT
 returns-then-field-ge-COUNT t c =
-    ap₂ eqb c.row-decision.ensures c.row-decision-then-field-ge-COUNT.ensures
+    ap₂ eqb c.row_decision.ensures c.row_decision-then-field-ge-COUNT.ensures
     ∙ at_leaf (rows_in c.args.bytes.now) c.args.field c.args.left c.args.right c.requires.1.0 c.requires.1.1 c.if-field-ge-COUNT.true
 
-pub are-alike-requires : goal.are-alike-requires
-are-alike-requires t c = (
+pub are_alike-requires : goal.are_alike-requires
+are_alike-requires t c = (
   omega arith,
   (
     c.requires.0,
     (
-      changed c.args.left _ c.args.field c.loop-left.value c.requires.1.0 c.if-field-ge-COUNT.false c.loop-left.invariant.0 c.with-value-first.ensures,
-      changed c.args.right _ c.args.field c.loop-left.value c.requires.1.1 c.if-field-ge-COUNT.false c.loop-left.invariant.0 c.with-value-second.ensures,
+      changed c.args.left _ c.args.field c.loop-left.value c.requires.1.0 c.if-field-ge-COUNT.false c.loop-left.invariant.0 c.with_value-first.ensures,
+      changed c.args.right _ c.args.field c.loop-left.value c.requires.1.1 c.if-field-ge-COUNT.false c.loop-left.invariant.0 c.with_value-second.ensures,
     ),
   ),
 )
 
-pub returns-then-not-are-alike : goal.returns-then-not-are-alike
-returns-then-not-are-alike t c =
+pub returns-then-not-are_alike : goal.returns-then-not-are_alike
+returns-then-not-are_alike t c =
     sym (not_alike (rows_in c.args.bytes.now) c.args.field c.args.left c.args.right c.if-field-ge-COUNT.false (nested c.args.bytes.now c.args.rows c.requires.0) c.requires.1.0 c.requires.1.1 c.loop-left.value c.loop-left.invariant.0
-    c.with-value-first.result c.with-value-second.result c.with-value-first.ensures c.with-value-second.ensures (sym c.if-not-are-alike.ensures))
+    c.with_value-first.result c.with_value-second.result c.with_value-first.ensures c.with_value-second.ensures (sym c.if-not-are_alike.ensures))
 
-pub row-end-requires : goal.row-end-requires
-row-end-requires t c = (
+pub row_end-requires : goal.row_end-requires
+row_end-requires t c = (
   c.requires.0,
   (
-    changed c.args.left _ c.args.field c.loop-left.value c.requires.1.0 c.if-field-ge-COUNT.false c.loop-left.invariant.0 c.with-value-first.ensures,
+    changed c.args.left _ c.args.field c.loop-left.value c.requires.1.0 c.if-field-ge-COUNT.false c.loop-left.invariant.0 c.with_value-first.ensures,
     c.if-field-ge-COUNT.false,
   ),
 )
 
-pub row-end-requires-in-loop-left : goal.row-end-requires-in-loop-left
-row-end-requires-in-loop-left t c = (
+pub row_end-requires-in-loop-left : goal.row_end-requires-in-loop-left
+row_end-requires-in-loop-left t c = (
   c.requires.0,
   (
-    changed c.args.right _ c.args.field c.loop-left.value c.requires.1.1 c.if-field-ge-COUNT.false c.loop-left.invariant.0 c.with-value-second.ensures,
+    changed c.args.right _ c.args.field c.loop-left.value c.requires.1.1 c.if-field-ge-COUNT.false c.loop-left.invariant.0 c.with_value-second.ensures,
     c.if-field-ge-COUNT.false,
   ),
 )
@@ -58,30 +58,30 @@ pub returns-then-end-top : goal.returns-then-end-top
 returns-then-end-top t c =
     let rows = rows_in c.args.bytes.now in
     let f = c.args.field in
-    let is = c.min-end.ensures ∙ ap₂ min c.row-end.ensures c.row-end-in-loop-left.ensures in
-    let most = ap (λ (a : List ℕ). get_or a f 0) c.to-array.ensures.value in
+    let is = c.min-end.ensures ∙ ap₂ min c.row_end.ensures c.row_end-in-loop-left.ensures in
+    let most = ap (λ (a : List ℕ). get_or a f 0) c.to_array.ensures.value in
     let n = nested c.args.bytes.now c.args.rows c.requires.0 in
-    let ends = end-from rows f c.args.left c.args.right c.if-field-ge-COUNT.false n c.requires.1.0 c.requires.1.1 c.loop-left.value c.loop-left.invariant.0 c.with-value-first.result c.with-value-second.result c.with-value-first.ensures c.with-value-second.ensures c.min-end.result is in
-    let more = agree-more rows f c.args.left c.args.right c.if-field-ge-COUNT.false n c.requires.1.0 c.requires.1.1 c.loop-left.value c.loop-left.invariant.0 c.with-value-first.result c.with-value-second.result c.with-value-first.ensures c.with-value-second.ensures
-    c.loop-left.invariant.1 (sym c.if-not-are-alike.ensures) c.min-end.result is in
+    let ends = end-from rows f c.args.left c.args.right c.if-field-ge-COUNT.false n c.requires.1.0 c.requires.1.1 c.loop-left.value c.loop-left.invariant.0 c.with_value-first.result c.with_value-second.result c.with_value-first.ensures c.with_value-second.ensures c.min-end.result is in
+    let more = agree-more rows f c.args.left c.args.right c.if-field-ge-COUNT.false n c.requires.1.0 c.requires.1.1 c.loop-left.value c.loop-left.invariant.0 c.with_value-first.result c.with_value-second.result c.with_value-first.ensures c.with_value-second.ensures
+    c.loop-left.invariant.1 (sym c.if-not-are_alike.ensures) c.min-end.result is in
     let last : suc c.min-end.result ≡ suc (get_or tops f 0) = omega (arith, ends.1, most, c.if-end-top.true) in
     sym (all-agree rows f c.args.left c.args.right c.if-field-ge-COUNT.false (subst (Agrees rows f c.args.left c.args.right) last more))
 
 pub loop-left-smaller : goal.loop-left-smaller
 loop-left-smaller t c =
     let rows = rows_in c.args.bytes.now in
-    let is = c.min-end.ensures ∙ ap₂ min c.row-end.ensures c.row-end-in-loop-left.ensures in
-    let most = ap (λ (a : List ℕ). get_or a c.args.field 0) c.to-array.ensures.value in
-    let ends = end-from rows c.args.field c.args.left c.args.right c.if-field-ge-COUNT.false (nested c.args.bytes.now c.args.rows c.requires.0) c.requires.1.0 c.requires.1.1 c.loop-left.value c.loop-left.invariant.0 c.with-value-first.result c.with-value-second.result
-    c.with-value-first.ensures c.with-value-second.ensures c.min-end.result is in
+    let is = c.min-end.ensures ∙ ap₂ min c.row_end.ensures c.row_end-in-loop-left.ensures in
+    let most = ap (λ (a : List ℕ). get_or a c.args.field 0) c.to_array.ensures.value in
+    let ends = end-from rows c.args.field c.args.left c.args.right c.if-field-ge-COUNT.false (nested c.args.bytes.now c.args.rows c.requires.0) c.requires.1.0 c.requires.1.1 c.loop-left.value c.loop-left.invariant.0 c.with_value-first.result c.with_value-second.result
+    c.with_value-first.ensures c.with_value-second.ensures c.min-end.result is in
     omega (arith, ends.0, most, c.if-end-top.false)
 
 pub loop-left-preserved : goal.loop-left-preserved
 loop-left-preserved t c =
     let rows = rows_in c.args.bytes.now in
     let f = c.args.field in
-    let is = c.min-end.ensures ∙ ap₂ min c.row-end.ensures c.row-end-in-loop-left.ensures in
-    let most = ap (λ (a : List ℕ). get_or a f 0) c.to-array.ensures.value in
-    let more = agree-more rows f c.args.left c.args.right c.if-field-ge-COUNT.false (nested c.args.bytes.now c.args.rows c.requires.0) c.requires.1.0 c.requires.1.1 c.loop-left.value c.loop-left.invariant.0 c.with-value-first.result c.with-value-second.result
-    c.with-value-first.ensures c.with-value-second.ensures c.loop-left.invariant.1 (sym c.if-not-are-alike.ensures) c.min-end.result is in
+    let is = c.min-end.ensures ∙ ap₂ min c.row_end.ensures c.row_end-in-loop-left.ensures in
+    let most = ap (λ (a : List ℕ). get_or a f 0) c.to_array.ensures.value in
+    let more = agree-more rows f c.args.left c.args.right c.if-field-ge-COUNT.false (nested c.args.bytes.now c.args.rows c.requires.0) c.requires.1.0 c.requires.1.1 c.loop-left.value c.loop-left.invariant.0 c.with_value-first.result c.with_value-second.result
+    c.with_value-first.ensures c.with_value-second.ensures c.loop-left.invariant.1 (sym c.if-not-are_alike.ensures) c.min-end.result is in
     (omega (arith, most, c.if-end-top.false), subst (Agrees rows f c.args.left c.args.right) (sym (add-one c.min-end.result)) more)

@@ -4,8 +4,8 @@ use Rattle.blocks.specs.Reading.{rows_in}
 use Rattle.opening.proofs.Walk.{Agrees}
 use Rattle.opening.proofs.alike.+are_alike.Given as goal
 
-abbrev pub decreases-are-alike : goal.decreases-are-alike
-decreases-are-alike l = length tops - l.field
+abbrev pub decreases-are_alike : goal.decreases-are_alike
+decreases-are_alike l = length tops - l.field
 
 -- the values so far are decided alike
 abbrev pub invariant-loop-left : goal.invariant-loop-left

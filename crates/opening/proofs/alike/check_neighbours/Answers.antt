@@ -25,20 +25,20 @@ pub loop-row-init : goal.loop-row-init
 unfolding first
 loop-row-init c = refl
 
-pub returns-then-starts-alike : goal.returns-then-starts-alike
+pub returns-then-starts_alike : goal.returns-then-starts_alike
 unfolding neighbour_damage
-returns-then-starts-alike c =
+returns-then-starts_alike c =
     let bytes = c.args.bytes.now in
     let row = c.loop-row.row in
     ap (λ o. unless o tt) (sym (first_found (length (rows_in bytes)) (at bytes) row (NotReduced row) (omega (arith, long bytes c.args.rows c.requires, c.loop-row-test.true)) c.loop-row.invariant
-    (some_found _ _ (sym c.if-starts-alike.ensures))))
+    (some_found _ _ (sym c.if-starts_alike.ensures))))
 
 pub loop-row-preserved : goal.loop-row-preserved
-loop-row-preserved c = first_step c.loop-row.row (at c.args.bytes.now) c.loop-row.invariant (none_found _ _ (sym c.if-starts-alike.ensures))
+loop-row-preserved c = first_step c.loop-row.row (at c.args.bytes.now) c.loop-row.invariant (none_found _ _ (sym c.if-starts_alike.ensures))
 
 pub returns : goal.returns
 unfolding neighbour_damage
 returns c =
     let bytes = c.args.bytes.now in
-    let all : c.loop-row.row ≡ length (rows_in bytes) = omega (arith, long bytes c.args.rows c.requires, some bytes c.args.rows c.requires, c.loop-row-test.false, c.loop-row.auto.row-end) in
+    let all : c.loop-row.row ≡ length (rows_in bytes) = omega (arith, long bytes c.args.rows c.requires, some bytes c.args.rows c.requires, c.loop-row-test.false, c.loop-row.auto.row_end) in
     ap (λ o. unless o tt) (sym (ap (λ n. first n (at bytes)) (sym all) ∙ c.loop-row.invariant))

@@ -28,11 +28,11 @@ pub returns : goal.returns
 returns c =
     let bytes = c.args.bytes.now in
     let row = c.args.row in
-    c.are-alike.ensures
-    ∙ starts (rows_in bytes) row c.requires.1.0 c.ranges-at-left.result c.ranges-at-right.result
-    (c.ranges-at-left.ensures.value ∙ sym (ranges_are bytes (row - 1) (omega (arith, c.requires.1.1, c.requires.0.count))))
-    (c.ranges-at-right.ensures.value ∙ sym (ranges_are bytes row (omega (arith, c.requires.1.1, c.requires.0.count))))
-    c.first-difference-field.result c.first-difference-field.ensures.value
-    c.low-ends-at.result c.low-ends-at-2.result
-    (c.low-ends-at.ensures.value ∙ sym (ap lows c.ranges-at-left.ensures.value))
-    (c.low-ends-at-2.ensures.value ∙ sym (ap lows c.ranges-at-right.ensures.value))
+    c.are_alike.ensures
+    ∙ starts (rows_in bytes) row c.requires.1.0 c.ranges_at-left.result c.ranges_at-right.result
+    (c.ranges_at-left.ensures.value ∙ sym (ranges_are bytes (row - 1) (omega (arith, c.requires.1.1, c.requires.0.count))))
+    (c.ranges_at-right.ensures.value ∙ sym (ranges_are bytes row (omega (arith, c.requires.1.1, c.requires.0.count))))
+    c.first_difference-field.result c.first_difference-field.ensures.value
+    c.low_ends_at.result c.low_ends_at-2.result
+    (c.low_ends_at.ensures.value ∙ sym (ap lows c.ranges_at-left.ensures.value))
+    (c.low_ends_at-2.ensures.value ∙ sym (ap lows c.ranges_at-right.ensures.value))

@@ -43,21 +43,21 @@ module _ (bytes : List ℕ) (k : ℕ) (block : List ℕ) (is : block ≡ block_a
       ∙ ap₂ (λ m x. is_count (leb (blocks_in bytes) m) x && eqb (number_in block) k && all_zero (unused_in block)) (add-one k) (n ∙ ap count_in is)
       ∙ ap (λ (b : List ℕ). is_count (leb (blocks_in bytes) (suc k)) (count_in (block_at bytes k)) && eqb (number_in b) k && all_zero (unused_in b)) is)
 
-pub returns-then-number-at-check-sum : goal.returns-then-number-at-check-sum
-returns-then-number-at-check-sum g c =
-    let wrong = check-wrong c.args.bytes.now c.args.number c.block-at-block.result.now c.block-at-block.ensures.value c.number-at.result c.check-sum.result c.number-at.ensures.value c.check-sum.ensures c.if-number-at-check-sum.true in
+pub returns-then-number_at-check_sum : goal.returns-then-number_at-check_sum
+returns-then-number_at-check_sum g c =
+    let wrong = check-wrong c.args.bytes.now c.args.number c.block_at-block.result.now c.block_at-block.ensures.value c.number_at.result c.check_sum.result c.number_at.ensures.value c.check_sum.ensures c.if-number_at-check_sum.true in
     ap (λ o. unless o tt) (sym (by_check g.K.Kind.label g.K.Kind.size c.args.bytes.now c.args.number wrong))
 
-pub returns-then-not-is-framed : goal.returns-then-not-is-framed
-returns-then-not-is-framed g c =
-    let right = check-right c.args.bytes.now c.args.number c.block-at-block.result.now c.block-at-block.ensures.value c.number-at.result c.check-sum.result c.number-at.ensures.value c.check-sum.ensures c.if-number-at-check-sum.false in
-    let frame = framed_is c.args.bytes.now c.args.number c.block-at-block.result.now c.block-at-block.ensures.value c.number-at-count.result c.number-at-count.ensures.value false c.if-not-is-framed.ensures.value in
+pub returns-then-not-is_framed : goal.returns-then-not-is_framed
+returns-then-not-is_framed g c =
+    let right = check-right c.args.bytes.now c.args.number c.block_at-block.result.now c.block_at-block.ensures.value c.number_at.result c.check_sum.result c.number_at.ensures.value c.check_sum.ensures c.if-number_at-check_sum.false in
+    let frame = framed_is c.args.bytes.now c.args.number c.block_at-block.result.now c.block_at-block.ensures.value c.number_at-count.result c.number_at-count.ensures.value false c.if-not-is_framed.ensures.value in
     ap (λ o. unless o tt) (sym (by_frame g.K.Kind.label g.K.Kind.size c.args.bytes.now c.args.number right frame))
 
 pub returns : goal.returns
 returns g c =
-    let right = check-right c.args.bytes.now c.args.number c.block-at-block.result.now c.block-at-block.ensures.value c.number-at.result c.check-sum.result c.number-at.ensures.value c.check-sum.ensures c.if-number-at-check-sum.false in
-    let frame = framed_is c.args.bytes.now c.args.number c.block-at-block.result.now c.block-at-block.ensures.value c.number-at-count.result c.number-at-count.ensures.value true c.if-not-is-framed.ensures.value in
-    let count = c.number-at-count.ensures.value ∙ ap count_in c.block-at-block.ensures.value in
+    let right = check-right c.args.bytes.now c.args.number c.block_at-block.result.now c.block_at-block.ensures.value c.number_at.result c.check_sum.result c.number_at.ensures.value c.check_sum.ensures c.if-number_at-check_sum.false in
+    let frame = framed_is c.args.bytes.now c.args.number c.block_at-block.result.now c.block_at-block.ensures.value c.number_at-count.result c.number_at-count.ensures.value true c.if-not-is_framed.ensures.value in
+    let count = c.number_at-count.ensures.value ∙ ap count_in c.block_at-block.ensures.value in
     let at : ℕ → Option Damage = λ j. found (foreign g.K.Kind.label g.K.Kind.size c.args.bytes.now (18 * c.args.number + j)) (Foreign (18 * c.args.number + j)) in
-    c.check-rows.ensures ∙ ap (λ n. unless (first n at) tt) count ∙ ap (λ o. unless o tt) (sym (by_rows g.K.Kind.label g.K.Kind.size c.args.bytes.now c.args.number right frame))
+    c.check_rows.ensures ∙ ap (λ n. unless (first n at) tt) count ∙ ap (λ o. unless o tt) (sym (by_rows g.K.Kind.label g.K.Kind.size c.args.bytes.now c.args.number right frame))

@@ -3,7 +3,7 @@ use Rattle.opening.proofs.Inspected.{was_none}
 use Rattle.opening.specs.Tables.{clean_holds}
 use Rattle.opening.proofs.inspection.decide_packed.Goals as goal
 
-pub row-decision-requires : goal.row-decision-requires
-row-decision-requires g c =
-    let clean = was_none _ _ _ c.in-ok-rows.ensures.answer in
-    (clean_holds g.K.Kind.label g.K.Kind.size c.args.bytes.now c.in-ok-rows.rows clean.0 clean.1, search rules)
+pub row_decision-requires : goal.row_decision-requires
+row_decision-requires g c =
+    let clean = was_none _ _ _ c.in_ok-rows.ensures.answer in
+    (clean_holds g.K.Kind.label g.K.Kind.size c.args.bytes.now c.in_ok-rows.rows clean.0 clean.1, search rules)

@@ -9,7 +9,7 @@ use Rattle.opening.specs.Firsts.{first_step}
 use Rattle.opening.proofs.Inspected.{was_damage, was_none, same_error, by_length, by-block, by-nesting, by-neighbours, by-none, counted}
 use Rattle.opening.specs.WordsLemmas.{says, nesting_passes}
 use Rattle.opening.proofs.inspection.inspect.Goals as goal
-use Rattle.opening.proofs.inspection.inspect.Goals.{then-length-eq0-via-then-length-eq0, then-length-eq0-via-else-length-eq0+then-length-ne0, then-length-eq0-via-else-length-eq0+else-length-ne0+then-length-gt-MOST-BYTES}
+use Rattle.opening.proofs.inspection.inspect.Goals.{then-length-eq0-via-then-length-eq0, then-length-eq0-via-else-length-eq0+then-length-ne0, then-length-eq0-via-else-length-eq0+else-length-ne0+then-length-gt-MOST_BYTES}
 
 right_length : (bytes : List ℕ) → (length bytes ≡ 0 → ⊥) → length bytes % 512 ≡ 0 → length bytes ≤ 32768 → wrong_length bytes ≡ false
 right_length bytes a b c = or_from _ _ (or_from _ _ (ne_eqb _ _ a) (not_from_true _ (eq-eqb _ _ b))) (le-ltb _ _ c)
@@ -36,7 +36,7 @@ returns-then-length-eq0 g c =
     let wrong : wrong_length bytes ≡ true = elim c.then-length-eq0.branch [
       | then-length-eq0-via-then-length-eq0 w ↦ or_left _ _ (or_left _ _ (eq-eqb _ _ w.if-length-eq0.true))
       | then-length-eq0-via-else-length-eq0+then-length-ne0 w ↦ or_left _ _ (or_right _ _ (not_from_false _ (ne_eqb _ _ w.if-length-ne0.true)))
-      | then-length-eq0-via-else-length-eq0+else-length-ne0+then-length-gt-MOST-BYTES w ↦ or_right _ _ (lt-ltb _ _ w.if-length-gt-MOST-BYTES.true)
+      | then-length-eq0-via-else-length-eq0+else-length-ne0+then-length-gt-MOST_BYTES w ↦ or_right _ _ (lt-ltb _ _ w.if-length-gt-MOST_BYTES.true)
     ] in
     record { answer = by_length g.K.Kind.label g.K.Kind.size bytes wrong; words = says g.K.Kind.label g.K.Kind.size bytes }
 
@@ -44,13 +44,13 @@ pub loop-number-init : goal.loop-number-init
 unfolding first
 loop-number-init g c = refl
 
-pub returns-in-err-check-block : goal.returns-in-err-check-block
-returns-in-err-check-block g c =
+pub returns-in_err-check_block : goal.returns-in_err-check_block
+returns-in_err-check_block g c =
     let label = g.K.Kind.label in
     let size = g.K.Kind.size in
     let bytes = c.args.bytes.now in
-    let good = right_length bytes c.if-length-eq0.false c.if-length-ne0.false c.if-length-gt-MOST-BYTES.false in
-    let d = was_damage _ _ tt c.in-err-check-block.ensures in
+    let good = right_length bytes c.if-length-eq0.false c.if-length-ne0.false c.if-length-gt-MOST_BYTES.false in
+    let d = was_damage _ _ tt c.in_err-check_block.ensures in
     record {
       answer = same_error _ _ c.from-residual.ensures.1 ∙ by-block label size bytes good c.loop-number.number _ c.loop-number-test.true c.loop-number.invariant d;
       words = says label size bytes;
@@ -58,43 +58,43 @@ returns-in-err-check-block g c =
 
 pub loop-number-preserved : goal.loop-number-preserved
 loop-number-preserved g c =
-    first_step c.loop-number.number (block_damage g.K.Kind.label g.K.Kind.size c.args.bytes.now) c.loop-number.invariant (was_none _ tt tt c.in-ok-check-block.ensures).0
+    first_step c.loop-number.number (block_damage g.K.Kind.label g.K.Kind.size c.args.bytes.now) c.loop-number.invariant (was_none _ tt tt c.in_ok-check_block.ensures).0
 
-pub check-nesting-requires : goal.check-nesting-requires
-check-nesting-requires g c =
+pub check_nesting-requires : goal.check_nesting-requires
+check_nesting-requires g c =
     let bytes = c.args.bytes.now in
-    let good = right_length bytes c.if-length-eq0.false c.if-length-ne0.false c.if-length-gt-MOST-BYTES.false in
-    let r = room g.K.Kind.label g.K.Kind.size bytes good c.if-length-eq0.false c.if-length-ne0.false c.loop-number.number c.loop-number-test.false c.loop-number.auto.number-end c.loop-number.invariant c.number-at-last.result c.number-at-last.ensures.value in
-    (rows_are bytes c.number-at-last.result c.number-at-last.ensures.value, (r.0, r.1))
+    let good = right_length bytes c.if-length-eq0.false c.if-length-ne0.false c.if-length-gt-MOST_BYTES.false in
+    let r = room g.K.Kind.label g.K.Kind.size bytes good c.if-length-eq0.false c.if-length-ne0.false c.loop-number.number c.loop-number-test.false c.loop-number.auto.number-end c.loop-number.invariant c.number_at-last.result c.number_at-last.ensures.value in
+    (rows_are bytes c.number_at-last.result c.number_at-last.ensures.value, (r.0, r.1))
 
-pub returns-in-err-check-nesting : goal.returns-in-err-check-nesting
-returns-in-err-check-nesting g c =
+pub returns-in_err-check_nesting : goal.returns-in_err-check_nesting
+returns-in_err-check_nesting g c =
     let label = g.K.Kind.label in
     let size = g.K.Kind.size in
     let bytes = c.args.bytes.now in
-    let good = right_length bytes c.if-length-eq0.false c.if-length-ne0.false c.if-length-gt-MOST-BYTES.false in
-    let all = blocks label size bytes good c.if-length-eq0.false c.if-length-ne0.false c.loop-number.number c.loop-number-test.false c.loop-number.auto.number-end c.loop-number.invariant c.number-at-last.result c.number-at-last.ensures.value in
+    let good = right_length bytes c.if-length-eq0.false c.if-length-ne0.false c.if-length-gt-MOST_BYTES.false in
+    let all = blocks label size bytes good c.if-length-eq0.false c.if-length-ne0.false c.loop-number.number c.loop-number-test.false c.loop-number.auto.number-end c.loop-number.invariant c.number_at-last.result c.number_at-last.ensures.value in
     record {
-      answer = same_error _ _ c.from-residual-in-err-check-nesting.ensures.1 ∙ by-nesting label size bytes good all _ (was_damage _ _ tt c.in-err-check-nesting.ensures);
+      answer = same_error _ _ c.from-residual-in_err-check_nesting.ensures.1 ∙ by-nesting label size bytes good all _ (was_damage _ _ tt c.in_err-check_nesting.ensures);
       words = says label size bytes;
     }
 
-pub check-neighbours-requires : goal.check-neighbours-requires
-check-neighbours-requires g c =
+pub check_neighbours-requires : goal.check_neighbours-requires
+check_neighbours-requires g c =
     let bytes = c.args.bytes.now in
-    let good = right_length bytes c.if-length-eq0.false c.if-length-ne0.false c.if-length-gt-MOST-BYTES.false in
-    holds g.K.Kind.label g.K.Kind.size bytes good c.if-length-eq0.false c.if-length-ne0.false c.loop-number.number c.loop-number-test.false c.loop-number.auto.number-end c.loop-number.invariant c.number-at-last.result c.number-at-last.ensures.value
-    (was_none _ tt tt c.in-ok-check-nesting.ensures).0
+    let good = right_length bytes c.if-length-eq0.false c.if-length-ne0.false c.if-length-gt-MOST_BYTES.false in
+    holds g.K.Kind.label g.K.Kind.size bytes good c.if-length-eq0.false c.if-length-ne0.false c.loop-number.number c.loop-number-test.false c.loop-number.auto.number-end c.loop-number.invariant c.number_at-last.result c.number_at-last.ensures.value
+    (was_none _ tt tt c.in_ok-check_nesting.ensures).0
 
-pub returns-in-err-check-neighbours : goal.returns-in-err-check-neighbours
-returns-in-err-check-neighbours g c =
+pub returns-in_err-check_neighbours : goal.returns-in_err-check_neighbours
+returns-in_err-check_neighbours g c =
     let label = g.K.Kind.label in
     let size = g.K.Kind.size in
     let bytes = c.args.bytes.now in
-    let good = right_length bytes c.if-length-eq0.false c.if-length-ne0.false c.if-length-gt-MOST-BYTES.false in
-    let all = blocks label size bytes good c.if-length-eq0.false c.if-length-ne0.false c.loop-number.number c.loop-number-test.false c.loop-number.auto.number-end c.loop-number.invariant c.number-at-last.result c.number-at-last.ensures.value in
+    let good = right_length bytes c.if-length-eq0.false c.if-length-ne0.false c.if-length-gt-MOST_BYTES.false in
+    let all = blocks label size bytes good c.if-length-eq0.false c.if-length-ne0.false c.loop-number.number c.loop-number-test.false c.loop-number.auto.number-end c.loop-number.invariant c.number_at-last.result c.number_at-last.ensures.value in
     record {
-      answer = same_error _ _ c.from-residual-in-err-check-neighbours.ensures.1 ∙ by-neighbours label size bytes good all _ (was_none _ tt tt c.in-ok-check-nesting.ensures).0 (was_damage _ _ tt c.in-err-check-neighbours.ensures);
+      answer = same_error _ _ c.from-residual-in_err-check_neighbours.ensures.1 ∙ by-neighbours label size bytes good all _ (was_none _ tt tt c.in_ok-check_nesting.ensures).0 (was_damage _ _ tt c.in_err-check_neighbours.ensures);
       words = says label size bytes;
     }
 
@@ -103,9 +103,9 @@ returns g c =
     let label = g.K.Kind.label in
     let size = g.K.Kind.size in
     let bytes = c.args.bytes.now in
-    let good = right_length bytes c.if-length-eq0.false c.if-length-ne0.false c.if-length-gt-MOST-BYTES.false in
-    let all = blocks label size bytes good c.if-length-eq0.false c.if-length-ne0.false c.loop-number.number c.loop-number-test.false c.loop-number.auto.number-end c.loop-number.invariant c.number-at-last.result c.number-at-last.ensures.value in
+    let good = right_length bytes c.if-length-eq0.false c.if-length-ne0.false c.if-length-gt-MOST_BYTES.false in
+    let all = blocks label size bytes good c.if-length-eq0.false c.if-length-ne0.false c.loop-number.number c.loop-number-test.false c.loop-number.auto.number-end c.loop-number.invariant c.number_at-last.result c.number_at-last.ensures.value in
     record {
-      answer = ap Ok (rows_are bytes c.number-at-last.result c.number-at-last.ensures.value) ∙ by-none label size bytes good all (was_none _ tt tt c.in-ok-check-nesting.ensures).0 (was_none _ tt tt c.in-ok-check-neighbours.ensures).0;
+      answer = ap Ok (rows_are bytes c.number_at-last.result c.number_at-last.ensures.value) ∙ by-none label size bytes good all (was_none _ tt tt c.in_ok-check_nesting.ensures).0 (was_none _ tt tt c.in_ok-check_neighbours.ensures).0;
       words = says label size bytes;
     }

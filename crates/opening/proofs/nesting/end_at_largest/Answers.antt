@@ -9,7 +9,7 @@ pub returns-then-ranges-field : goal.returns-then-ranges-field
 returns-then-ranges-field c =
     let ranges = c.args.ranges.now in
     let i = c.loop-field.field in
-    let most = ap (λ (t : List ℕ). get_or t i 0) c.to-array-largest.ensures.value in
+    let most = ap (λ (t : List ℕ). get_or t i 0) c.to_array-largest.ensures.value in
     sym (c.loop-field.invariant ∙ both_more at_end tops ranges (sym c.requires.0) i 0 _ (omega arith)
     ∙ ap (λ t. t && at_end (drop (i + 1) tops) (drop (i + 1) ranges)) (ne_eqb _ _ (λ e. c.if-ranges-field.true (e ∙ sym most))))
 
@@ -17,7 +17,7 @@ pub loop-field-preserved : goal.loop-field-preserved
 loop-field-preserved c =
     let ranges = c.args.ranges.now in
     let i = c.loop-field.field in
-    let most = ap (λ (t : List ℕ). get_or t i 0) c.to-array-largest.ensures.value in
+    let most = ap (λ (t : List ℕ). get_or t i 0) c.to_array-largest.ensures.value in
     c.loop-field.invariant ∙ both_more at_end tops ranges (sym c.requires.0) i 0 _ (omega arith)
     ∙ ap (λ t. t && at_end (drop (i + 1) tops) (drop (i + 1) ranges)) (eq-eqb _ _ (c.if-ranges-field.false ∙ most))
 

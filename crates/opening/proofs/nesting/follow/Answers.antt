@@ -34,20 +34,20 @@ module _ (a b : List (Range ℕ)) (x : length a ≡ length tops) (y : length b �
 
 pub returns-then-start-end : goal.returns-then-start-end
 returns-then-start-end c =
-    let gone = apart c.args.left.now c.args.right.now c.requires.0 c.requires.1 c.first-difference-field.result c.first-difference-field.ensures.value c.if-field-ge-COUNT.false in
+    let gone = apart c.args.left.now c.args.right.now c.requires.0 c.requires.1 c.first_difference-field.result c.first_difference-field.ensures.value c.if-field-ge-COUNT.false in
     elim c.then-start-end.branch [
       | then-start-end-via-then-start-end w ↦ gone (λ e. omega (arith, e, w.if-start-end.true))
       | then-start-end-via-else-start-end+then-start-end-gt1 w ↦ gone (λ e. omega (arith, e, w.if-start-end-gt1.true))
     ]
 
-pub returns-then-end-at-largest : goal.returns-then-end-at-largest
-returns-then-end-at-largest c =
-    next c.args.left.now c.args.right.now c.requires.0 c.requires.1 c.first-difference-field.result c.first-difference-field.ensures.value c.if-field-ge-COUNT.false
-    c.if-start-end.false c.if-start-end-gt1.false true c.start-at-zero.result c.if-end-at-largest.ensures c.start-at-zero.ensures
+pub returns-then-end_at_largest : goal.returns-then-end_at_largest
+returns-then-end_at_largest c =
+    next c.args.left.now c.args.right.now c.requires.0 c.requires.1 c.first_difference-field.result c.first_difference-field.ensures.value c.if-field-ge-COUNT.false
+    c.if-start-end.false c.if-start-end-gt1.false true c.start_at_zero.result c.if-end_at_largest.ensures c.start_at_zero.ensures
 
-pub returns-else-end-at-largest : goal.returns-else-end-at-largest
-returns-else-end-at-largest c =
+pub returns-else-end_at_largest : goal.returns-else-end_at_largest
+returns-else-end_at_largest c =
     let right = c.args.right.now in
-    c.if-end-at-largest.false
-    ∙ next c.args.left.now right c.requires.0 c.requires.1 c.first-difference-field.result c.first-difference-field.ensures.value c.if-field-ge-COUNT.false
-    c.if-start-end.false c.if-start-end-gt1.false false (at_start (drop (c.first-difference-field.result + 1) right)) c.if-end-at-largest.ensures refl
+    c.if-end_at_largest.false
+    ∙ next c.args.left.now right c.requires.0 c.requires.1 c.first_difference-field.result c.first_difference-field.ensures.value c.if-field-ge-COUNT.false
+    c.if-start-end.false c.if-start-end-gt1.false false (at_start (drop (c.first_difference-field.result + 1) right)) c.if-end_at_largest.ensures refl

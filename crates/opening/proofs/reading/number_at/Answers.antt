@@ -12,11 +12,11 @@ grows i j h = pow-le-pow_right (omega arith) h
 pub loop-i-init : goal.loop-i-init
 loop-i-init c = (refl, omega arith)
 
-pub overflow-mul-number : goal.overflow-mul-number
-overflow-mul-number c = omega (arith, c.loop-i.invariant.1, grows c.loop-i.i 3 (omega arith))
+pub overflow_mul-number : goal.overflow_mul-number
+overflow_mul-number c = omega (arith, c.loop-i.invariant.1, grows c.loop-i.i 3 (omega arith))
 
-pub overflow-add-number : goal.overflow-add-number
-overflow-add-number c = omega (arith, c.loop-i.invariant.1, grows c.loop-i.i 3 (omega arith), c.from.ensures, c.type-inv.bytes (c.args.start + c.loop-i.i))
+pub overflow_add-number : goal.overflow_add-number
+overflow_add-number c = omega (arith, c.loop-i.invariant.1, grows c.loop-i.i 3 (omega arith), c.from.ensures, c.type_inv.bytes (c.args.start + c.loop-i.i))
 
 pub loop-i-preserved : goal.loop-i-preserved
 loop-i-preserved c =
@@ -25,7 +25,7 @@ loop-i-preserved c =
     let i = c.loop-i.i in
     let more = ap number_of (take_more (drop start bytes) i 0 (omega (arith, length-drop start bytes))) ∙ number_more (take i (drop start bytes)) (get_or (drop start bytes) i 0) in
     let power = ap (λ n. 256 ^ n) (add-one i) ∙ pow-suc 256 i in
-    (omega (arith, more, c.loop-i.invariant.0, c.from.ensures, get_or-drop start bytes i 0), omega (arith, power, c.loop-i.invariant.1, c.from.ensures, c.type-inv.bytes (start + i)))
+    (omega (arith, more, c.loop-i.invariant.0, c.from.ensures, get_or-drop start bytes i 0), omega (arith, power, c.loop-i.invariant.1, c.from.ensures, c.type_inv.bytes (start + i)))
 
 pub returns : goal.returns
 returns c =

@@ -40,9 +40,9 @@ pub returns : goal.returns
 returns c =
     let row = c.args.row.now in
     let f = c.args.field in
-    let s = c.place-of-start.ensures.start in
-    let w = c.place-of-start.ensures.width in
+    let s = c.place_of-start.ensures.start in
+    let w = c.place_of-start.ensures.width in
     record {
-      value = is_range row f _ _ _ _ s w c.number-at.ensures.value c.number-at-2.ensures.value;
-      fit = (in_field row f _ _ 0 0 s w _ c.number-at.ensures.bound, in_field row f _ _ 0 0 s w _ c.number-at-2.ensures.bound);
+      value = is_range row f _ _ _ _ s w c.number_at.ensures.value c.number_at-2.ensures.value;
+      fit = (in_field row f _ _ 0 0 s w _ c.number_at.ensures.bound, in_field row f _ _ 0 0 s w _ c.number_at-2.ensures.bound);
     }

@@ -23,11 +23,11 @@ loop-high-init c =
     let few : length (rows_in bytes) ≡ c.args.rows = length-rows bytes ∙ sym c.requires.0.count in
     ((λ f. (omega arith, omega (arith, f.within, few))), omega arith, omega (arith, (found bytes c.args.rows c.requires.0 p c.requires.1).within, few))
 
-pub loop-high-preserved-then-is-before : goal.loop-high-preserved-then-is-before
-loop-high-preserved-then-is-before c =
+pub loop-high-preserved-then-is_before : goal.loop-high-preserved-then-is_before
+loop-high-preserved-then-is_before c =
     let middle = c.loop-high.low + (c.loop-high.high - c.loop-high.low) / 2 in
     let few : middle < row_count c.args.bytes.now = omega (arith, c.loop-high.invariant.1, c.loop-high.invariant.2, c.loop-high-test.true, c.requires.0.count) in (
-      (λ f. ((c.loop-high.invariant.0 f).0, ltb-true _ _ (compared c.args.bytes.now c.args.packet.now f middle few c.ranges-at.result c.ranges-at.ensures.value _ c.if-is-before.ensures))),
+      (λ f. ((c.loop-high.invariant.0 f).0, ltb-true _ _ (compared c.args.bytes.now c.args.packet.now f middle few c.ranges_at.result c.ranges_at.ensures.value _ c.if-is_before.ensures))),
       omega (arith, c.loop-high.invariant.1, c.loop-high.invariant.2, c.loop-high-test.true),
       omega (arith, c.loop-high.invariant.2, c.loop-high-test.true),
     )
@@ -36,7 +36,7 @@ pub loop-high-preserved : goal.loop-high-preserved
 loop-high-preserved c =
     let middle = c.loop-high.low + (c.loop-high.high - c.loop-high.low) / 2 in
     let few : middle < row_count c.args.bytes.now = omega (arith, c.loop-high.invariant.1, c.loop-high.invariant.2, c.loop-high-test.true, c.requires.0.count) in (
-      (λ f. (ltb-false _ _ (compared c.args.bytes.now c.args.packet.now f middle few c.ranges-at.result c.ranges-at.ensures.value _ c.if-is-before.ensures), (c.loop-high.invariant.0 f).1)),
+      (λ f. (ltb-false _ _ (compared c.args.bytes.now c.args.packet.now f middle few c.ranges_at.result c.ranges_at.ensures.value _ c.if-is_before.ensures), (c.loop-high.invariant.0 f).1)),
       c.loop-high.invariant.1,
       omega (arith, c.loop-high.invariant.2, c.loop-high-test.true),
     )

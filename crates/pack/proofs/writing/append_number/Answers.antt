@@ -7,6 +7,6 @@ pub returns : goal.returns
 returns c =
     let w = c.args.width in
     let n = c.args.value in
-    extended c.extend-from-slice.result _ _ _ _
-    (ap (λ bs. take (4 - (4 - w)) (drop (4 - w) bs)) c.to-be-bytes-bytes.ensures ∙ take_rest (four n) (4 - w) ∙ last_bytes w n c.requires)
-    c.extend-from-slice.ensures.items
+    extended c.extend_from_slice.result _ _ _ _
+    (ap (λ bs. take (4 - (4 - w)) (drop (4 - w) bs)) c.to_be_bytes-bytes.ensures ∙ take_rest (four n) (4 - w) ∙ last_bytes w n c.requires)
+    c.extend_from_slice.ensures.items

@@ -10,12 +10,12 @@ use Rattle.pack.proofs.writing.append_row.Goals as goal
 pub loop-width-preserved : goal.loop-width-preserved
 loop-width-preserved c =
     let step = c.in-Some.ensures.steps in (
-      range_more c.in-Some.width.now c.in-Some.range.now _ _ _ _ _ _ _ _ step.0 step.1 c.in-ok-append-number.ensures c.in-ok-append-number-2.ensures c.loop-width.invariant.0,
+      range_more c.in-Some.width.now c.in-Some.range.now _ _ _ _ _ _ _ _ step.0 step.1 c.in_ok-append_number.ensures c.in_ok-append_number-2.ensures c.loop-width.invariant.0,
       (subst (λ (ws : List ℕ). AllBelowBase 5 ws) step.0 c.loop-width.invariant.1).1,
     )
 
 pub returns : goal.returns
 returns c =
     let none = either_empty_from_Zip _ _ _ refl c.in-None.ensures.steps in
-    extended_on c.extend-from-slice.result (vec_items c.args.out.now) (range_bytes widths (ranges c.args.row.now.region)) _ _ _
-    (sym (append-nil (vec_items c.loop-width.out)) ∙ ap (λ (x : List ℕ). vec_items c.loop-width.out ++ x) (sym (range_all _ _ none)) ∙ c.loop-width.invariant.0) c.extend-from-slice.ensures.items
+    extended_on c.extend_from_slice.result (vec_items c.args.out.now) (range_bytes widths (ranges c.args.row.now.region)) _ _ _
+    (sym (append-nil (vec_items c.loop-width.out)) ∙ ap (λ (x : List ℕ). vec_items c.loop-width.out ++ x) (sym (range_all _ _ none)) ∙ c.loop-width.invariant.0) c.extend_from_slice.ensures.items

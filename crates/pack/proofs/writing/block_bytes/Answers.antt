@@ -8,7 +8,7 @@ use Rattle.pack.proofs.Blocks.{heading, row_more, body_written, block_written}
 use Rattle.pack.proofs.writing.block_bytes.Goals as goal
 
 pub loop-row-preserved : goal.loop-row-preserved
-loop-row-preserved c = row_more c.args.kind c.args.number c.args.rows.now c.loop-row.row-index _ _ _ c.loop-row-test.true c.loop-row.invariant c.in-ok-append-row.ensures
+loop-row-preserved c = row_more c.args.kind c.args.number c.args.rows.now c.loop-row.row-index _ _ _ c.loop-row-test.true c.loop-row.invariant c.in_ok-append_row.ensures
 
 pub returns : goal.returns
 returns c =
@@ -16,6 +16,6 @@ returns c =
     let number = c.args.number in
     let rows = c.args.rows.now in
     let all = c.loop-row.invariant ∙ ap (λ (x : List Row). heading kind number rows ++ flat_map (row_bytes kind) (view x)) (take_all c.loop-row.row-index rows c.loop-row-test.false) in
-    let body = body_written kind number rows (vec_items c.loop-row.bytes) _ (vec_len c.loop-row.bytes) c.requires all c.loop-row.bytes.ok.0 c.in-ok-resize.ensures.items in
-    let all-of-it = take_all 508 (vec_items c.resize.new.self) (omega (arith, c.in-ok-resize.ensures.len, c.resize.new.self.ok.0)) in
-    block_written kind number rows _ _ c.check-sum-check.result body (c.check-sum-check.ensures ∙ ap (λ (b : List ℕ). check_sum (take 508 b)) c.deref.ensures.value ∙ ap check_sum all-of-it) c.in-ok-append-number-3.ensures
+    let body = body_written kind number rows (vec_items c.loop-row.bytes) _ (vec_len c.loop-row.bytes) c.requires all c.loop-row.bytes.ok.0 c.in_ok-resize.ensures.items in
+    let all-of-it = take_all 508 (vec_items c.resize.new.self) (omega (arith, c.in_ok-resize.ensures.len, c.resize.new.self.ok.0)) in
+    block_written kind number rows _ _ c.check_sum-check.result body (c.check_sum-check.ensures ∙ ap (λ (b : List ℕ). check_sum (take 508 b)) c.deref.ensures.value ∙ ap check_sum all-of-it) c.in_ok-append_number-3.ensures

@@ -27,9 +27,9 @@ loop-number-preserved c =
     let left = chunks_rest (enumerate_source c.loop-number.number-iterator) in
     let inv = c.loop-number.invariant in
     let step = c.in-Some.ensures.steps in
-    let two = block_more kind rows n left c.in-Some.part.now _ _ (vec_items c.in-ok-block.block) _ inv.1 step.0.1.0 (step.0.1.1 ∙ ap (λ k. min k (length left)) inv.2) inv.0
-    (c.in-ok-block.ensures ∙ ap (λ m. block kind m (view c.in-Some.part.now)) step.1)
-    (c.in-ok-extend-from-slice.ensures.items ∙ ap (λ (x : List ℕ). vec_items c.loop-number.bytes ++ x) c.deref.ensures.value) in (
+    let two = block_more kind rows n left c.in-Some.part.now _ _ (vec_items c.in_ok-block.block) _ inv.1 step.0.1.0 (step.0.1.1 ∙ ap (λ k. min k (length left)) inv.2) inv.0
+    (c.in_ok-block.ensures ∙ ap (λ m. block kind m (view c.in-Some.part.now)) step.1)
+    (c.in_ok-extend_from_slice.ensures.items ∙ ap (λ (x : List ℕ). vec_items c.loop-number.bytes ++ x) c.deref.ensures.value) in (
       two.0 ∙ sym (ap (first_blocks kind (view rows)) step.2),
       two.1 ∙ sym (ap (λ m. drop (18 * m) rows) step.2),
       step.0.0 ∙ inv.2,

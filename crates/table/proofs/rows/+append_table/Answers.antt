@@ -12,32 +12,32 @@ use Rattle.table.proofs.Exits.{none_made, handed_on}
 use Rattle.table.proofs.Built.{built_as}
 use Rattle.table.proofs.Steps.{leaf, cell-counts, edge-from, first_step, next-step, all-count, last_step}
 use Rattle.table.proofs.rows.+append_table.Goals as goal
-use Rattle.table.proofs.rows.+append_table.Goals.{then-is-repeated, else-is-repeated+else-len-base-gt-MOST-ROWS}
+use Rattle.table.proofs.rows.+append_table.Goals.{then-is_repeated, else-is_repeated+else-len-base-gt-MOST_ROWS}
 
-pub returns-in-default : goal.returns-in-default
-returns-in-default g t c = record {
-  rows = leaf (g.S.Source.meaning c.args.source.now) c.args.field c.args.at c.in-default.ensures _ refl c.decide-decision.ensures
-      (vec_items c.args.rows.now) (vec_items c.push.new.self) c.in-ok-push.ensures.items;
-  few = omega (arith, c.in-ok-push.ensures.len);
+pub returns-in_default : goal.returns-in_default
+returns-in_default g t c = record {
+  rows = leaf (g.S.Source.meaning c.args.source.now) c.args.field c.args.at c.in_default.ensures _ refl c.decide-decision.ensures
+      (vec_items c.args.rows.now) (vec_items c.push.new.self) c.in_ok-push.ensures.items;
+  few = omega (arith, c.in_ok-push.ensures.len);
   refused = tt;
 }
 
-pub returns-in-err-append-table : goal.returns-in-err-append-table
-returns-in-err-append-table g t c =
-    let x = c.from-residual-in-err-append-table.ensures.1 in
+pub returns-in_err-append_table : goal.returns-in_err-append_table
+returns-in_err-append_table g t c =
+    let x = c.from-residual-in_err-append_table.ensures.1 in
     record {
       rows = none_made _ _ _ x;
       few = none_made _ _ _ x;
       refused = handed_on _ _ _ _ x
           (cell-counts (g.S.Source.meaning c.args.source.now) c.in-Some.here c.args.field c.in-Some.ensures c.args.at c.with-first.result 0 (omega arith, c.with-first.ensures))
-          c.in-err-append-table.ensures.refused;
+          c.in_err-append_table.ensures.refused;
     }
 
 pub loop-high-init : goal.loop-high-init
 loop-high-init g t c =
-    let u = c.in-ok-append-table.ensures in (
+    let u = c.in_ok-append_table.ensures in (
       first_step (g.S.Source.meaning c.args.source.now) c.in-Some.here c.args.field c.in-Some.ensures c.args.at c.with-first.result (omega arith, c.with-first.ensures) c.edge-high.result edge
-          (view (vec_items c.args.rows.now)) (view (vec_items c.append-table.new.rows)) c.len-base.result u.rows long,
+          (view (vec_items c.args.rows.now)) (view (vec_items c.append_table.new.rows)) c.len-base.result u.rows long,
       omega (arith, edge.most, c.top-top.ensures),
       omega arith,
       omega (arith, u.few, c.len-base.ensures),
@@ -50,44 +50,44 @@ loop-high-init g t c =
     edge : Edge (g.S.Source.meaning c.args.source.now) (values c.with-first.result) (place c.in-Some.here) c.edge-high.result
     edge = let w : Within tops (values c.with-first.result) = search rules in g.met.S.Source.sound _ _ _ _ (place_few c.in-Some.here) w c.edge-high.ensures
 
-pub returns-in-err-append-table-2 : goal.returns-in-err-append-table-2
-returns-in-err-append-table-2 g t c =
-    let x = c.from-residual-in-err-append-table-2.ensures.1 in
+pub returns-in_err-append_table-2 : goal.returns-in_err-append_table-2
+returns-in_err-append_table-2 g t c =
+    let x = c.from-residual-in_err-append_table-2.ensures.1 in
     record {
       rows = none_made _ _ _ x;
       few = none_made _ _ _ x;
       refused = handed_on _ _ _ _ x
           (cell-counts (g.S.Source.meaning c.args.source.now) c.in-Some.here c.args.field c.in-Some.ensures c.args.at c.with-next.result (c.loop-high.high + 1) (omega (arith, c.loop-high-test.true, c.top-top.ensures), c.with-next.ensures))
-          c.in-err-append-table-2.ensures.refused;
+          c.in_err-append_table-2.ensures.refused;
     }
 
-pub returns-then-len-base-gt-MOST-ROWS : goal.returns-then-len-base-gt-MOST-ROWS
-returns-then-len-base-gt-MOST-ROWS g t c = record {
+pub returns-then-len-base-gt-MOST_ROWS : goal.returns-then-len-base-gt-MOST_ROWS
+returns-then-len-base-gt-MOST_ROWS g t c = record {
   rows = tt;
   few = tt;
   refused = omega (
     arith,
     counted,
-    length-take c.len-base.result (view (vec_items c.append-table.new.rows)),
-    length-map (vec_items c.append-table-in-loop-high.new.rows) plain,
-    c.append-table-in-loop-high.new.rows.ok,
+    length-take c.len-base.result (view (vec_items c.append_table.new.rows)),
+    length-map (vec_items c.append_table-in-loop-high.new.rows) plain,
+    c.append_table-in-loop-high.new.rows.ok,
     c.len.ensures,
-    c.if-len-base-gt-MOST-ROWS.true,
+    c.if-len-base-gt-MOST_ROWS.true,
   );
 }
   where
     long : length (view (vec_items c.loop-high.rows)) ≡ c.len-end.result
     long = omega (arith, length-map (vec_items c.loop-high.rows) plain, c.loop-high.rows.ok, c.len-end.ensures)
 
-    told : Decides c.is-repeated.result
-        (between c.loop-high.start c.len-end.result (view (vec_items c.append-table-in-loop-high.new.rows)) ≡ drop c.len-end.result (view (vec_items c.append-table-in-loop-high.new.rows)))
-    told = subst (λ (x : List Row). Decides c.is-repeated.result (between c.loop-high.start c.len-end.result (view x) ≡ drop c.len-end.result (view x))) c.deref.ensures.value c.is-repeated.ensures
+    told : Decides c.is_repeated.result
+        (between c.loop-high.start c.len-end.result (view (vec_items c.append_table-in-loop-high.new.rows)) ≡ drop c.len-end.result (view (vec_items c.append_table-in-loop-high.new.rows)))
+    told = subst (λ (x : List Row). Decides c.is_repeated.result (between c.loop-high.start c.len-end.result (view x) ≡ drop c.len-end.result (view x))) c.deref.ensures.value c.is_repeated.ensures
 
-    counted : length (view (vec_items c.append-table-in-loop-high.new.rows))
-        ≤ length (take c.len-base.result (view (vec_items c.append-table.new.rows))) + length (table_from (g.S.Source.meaning c.args.source.now) c.args.field (values c.args.at))
-    counted = all-count (g.S.Source.meaning c.args.source.now) c.in-Some.here c.args.field c.in-Some.ensures c.args.at (take c.len-base.result (view (vec_items c.append-table.new.rows))) (view (vec_items c.loop-high.rows)) c.loop-high.start c.loop-high.low c.loop-high.high c.loop-high.invariant.0
+    counted : length (view (vec_items c.append_table-in-loop-high.new.rows))
+        ≤ length (take c.len-base.result (view (vec_items c.append_table.new.rows))) + length (table_from (g.S.Source.meaning c.args.source.now) c.args.field (values c.args.at))
+    counted = all-count (g.S.Source.meaning c.args.source.now) c.in-Some.here c.args.field c.in-Some.ensures c.args.at (take c.len-base.result (view (vec_items c.append_table.new.rows))) (view (vec_items c.loop-high.rows)) c.loop-high.start c.loop-high.low c.loop-high.high c.loop-high.invariant.0
         c.with-next.result (omega (arith, c.loop-high-test.true, c.top-top.ensures), c.with-next.ensures)
-        (view (vec_items c.append-table-in-loop-high.new.rows)) c.in-ok-append-table-2.ensures.rows c.len-end.result long c.is-repeated.result told c.if-is-repeated.false
+        (view (vec_items c.append_table-in-loop-high.new.rows)) c.in_ok-append_table-2.ensures.rows c.len-end.result long c.is_repeated.result told c.if-is_repeated.false
 
 pub loop-high-smaller : goal.loop-high-smaller
 loop-high-smaller g t c = omega (
@@ -103,23 +103,23 @@ pub loop-high-preserved : goal.loop-high-preserved
 loop-high-preserved g t c =
     let m = g.S.Source.meaning c.args.source.now in
     let now = vec_items c.loop-high.rows in
-    let all = vec_items c.append-table-in-loop-high.new.rows in
-    let two = next-step m c.in-Some.here c.args.field c.in-Some.ensures c.args.at (take c.len-base.result (view (vec_items c.append-table.new.rows))) (view now) c.loop-high.start c.loop-high.low c.loop-high.high c.loop-high.invariant.0
-    c.with-next.result (more, c.with-next.ensures) (view all) c.in-ok-append-table-2.ensures.rows c.len-end.result long c.is-repeated.result told c.edge-high-in-loop-high.result edge in
-    elim c.if-is-repeated.branch [
-      | then-is-repeated w ↦ (
-        built_as _ _ _ _ _ _ _ _ _ _ _ (ap (λ v. view (vec_items v)) w.rows-is ∙ ap view w.truncate.ensures.items ∙ sym (take-map plain c.len-end.result all)) w.start-is w.low-is (two.0 w.if-is-repeated.true),
+    let all = vec_items c.append_table-in-loop-high.new.rows in
+    let two = next-step m c.in-Some.here c.args.field c.in-Some.ensures c.args.at (take c.len-base.result (view (vec_items c.append_table.new.rows))) (view now) c.loop-high.start c.loop-high.low c.loop-high.high c.loop-high.invariant.0
+    c.with-next.result (more, c.with-next.ensures) (view all) c.in_ok-append_table-2.ensures.rows c.len-end.result long c.is_repeated.result told c.edge-high-in-loop-high.result edge in
+    elim c.if-is_repeated.branch [
+      | then-is_repeated w ↦ (
+        built_as _ _ _ _ _ _ _ _ _ _ _ (ap (λ v. view (vec_items v)) w.rows-is ∙ ap view w.truncate.ensures.items ∙ sym (take-map plain c.len-end.result all)) w.start-is w.low-is (two.0 w.if-is_repeated.true),
         omega (arith, edge.most, c.top-top.ensures),
         omega (arith, c.loop-high.invariant, w.start-is),
         omega (arith, c.loop-high.invariant, few, w.start-is, ap vec_len w.rows-is, w.truncate.ensures.len, c.len-end.ensures),
         omega (arith, c.loop-high.invariant, few, ap vec_len w.rows-is, w.truncate.ensures.len, c.len-end.ensures),
       )
-      | else-is-repeated+else-len-base-gt-MOST-ROWS w ↦ (
-        built_as _ _ _ _ _ _ _ _ _ _ _ (ap (λ v. view (vec_items v)) w.rows-is ∙ w.narrow.ensures.rows) w.start-is w.low-is (two.1 w.if-is-repeated.false),
+      | else-is_repeated+else-len-base-gt-MOST_ROWS w ↦ (
+        built_as _ _ _ _ _ _ _ _ _ _ _ (ap (λ v. view (vec_items v)) w.rows-is ∙ w.narrow.ensures.rows) w.start-is w.low-is (two.1 w.if-is_repeated.false),
         omega (arith, edge.most, c.top-top.ensures),
         omega (arith, c.loop-high.invariant, w.start-is, c.len-end.ensures),
         omega (arith, few, w.start-is, ap vec_len w.rows-is, w.narrow.ensures.len, c.len-end.ensures),
-        omega (arith, ap vec_len w.rows-is, w.narrow.ensures.len, w.len.ensures, w.if-len-base-gt-MOST-ROWS.false),
+        omega (arith, ap vec_len w.rows-is, w.narrow.ensures.len, w.len.ensures, w.if-len-base-gt-MOST_ROWS.false),
       )
     ]
   where
@@ -129,15 +129,15 @@ loop-high-preserved g t c =
     long : length (view (vec_items c.loop-high.rows)) ≡ c.len-end.result
     long = omega (arith, length-map (vec_items c.loop-high.rows) plain, c.loop-high.rows.ok, c.len-end.ensures)
 
-    told : Decides c.is-repeated.result
-        (between c.loop-high.start c.len-end.result (view (vec_items c.append-table-in-loop-high.new.rows)) ≡ drop c.len-end.result (view (vec_items c.append-table-in-loop-high.new.rows)))
-    told = subst (λ (x : List Row). Decides c.is-repeated.result (between c.loop-high.start c.len-end.result (view x) ≡ drop c.len-end.result (view x))) c.deref.ensures.value c.is-repeated.ensures
+    told : Decides c.is_repeated.result
+        (between c.loop-high.start c.len-end.result (view (vec_items c.append_table-in-loop-high.new.rows)) ≡ drop c.len-end.result (view (vec_items c.append_table-in-loop-high.new.rows)))
+    told = subst (λ (x : List Row). Decides c.is_repeated.result (between c.loop-high.start c.len-end.result (view x) ≡ drop c.len-end.result (view x))) c.deref.ensures.value c.is_repeated.ensures
 
     edge : Edge (g.S.Source.meaning c.args.source.now) (values c.with-next.result) (place c.in-Some.here) c.edge-high-in-loop-high.result
     edge = let w : Within tops (values c.with-next.result) = search rules in g.met.S.Source.sound _ _ _ _ (place_few c.in-Some.here) w c.edge-high-in-loop-high.ensures
 
-    few : (vec_len c.loop-high.rows ≤ vec_len c.append-table-in-loop-high.new.rows) × (vec_len c.append-table-in-loop-high.new.rows ≤ vec_len c.loop-high.rows + most_rows)
-    few = c.in-ok-append-table-2.ensures.few
+    few : (vec_len c.loop-high.rows ≤ vec_len c.append_table-in-loop-high.new.rows) × (vec_len c.append_table-in-loop-high.new.rows ≤ vec_len c.loop-high.rows + most_rows)
+    few = c.in_ok-append_table-2.ensures.few
 
 pub returns : goal.returns
 returns g t c = record {
@@ -146,15 +146,15 @@ returns g t c = record {
   refused = tt;
 }
   where
-    was : take c.len-base.result (view (vec_items c.append-table.new.rows)) ≡ view (vec_items c.args.rows.now)
+    was : take c.len-base.result (view (vec_items c.append_table.new.rows)) ≡ view (vec_items c.args.rows.now)
     was =
         let n : length (view (vec_items c.args.rows.now)) ≡ c.len-base.result = omega (arith, length-map (vec_items c.args.rows.now) plain, c.args.rows.now.ok, c.len-base.ensures) in
-        ap (take c.len-base.result) c.in-ok-append-table.ensures.rows ∙ take_at (view (vec_items c.args.rows.now)) _ _ n
+        ap (take c.len-base.result) c.in_ok-append_table.ensures.rows ∙ take_at (view (vec_items c.args.rows.now)) _ _ n
 
     long : length (view (vec_items c.loop-high.rows)) ≡ c.len-end-2.result
     long = omega (arith, length-map (vec_items c.loop-high.rows) plain, c.loop-high.rows.ok, c.len-end-2.ensures)
 
     whole : cut_between c.loop-high.start c.len-end-2.result (place c.in-Some.here) (record { low = c.loop-high.low; high = c.loop-high.high }) (view (vec_items c.loop-high.rows))
-        ≡ take c.len-base.result (view (vec_items c.append-table.new.rows)) ++ uncut c.args.field (table_from (g.S.Source.meaning c.args.source.now) c.args.field (values c.args.at))
-    whole = last_step (g.S.Source.meaning c.args.source.now) c.in-Some.here c.args.field c.in-Some.ensures c.args.at (take c.len-base.result (view (vec_items c.append-table.new.rows))) (view (vec_items c.loop-high.rows))
+        ≡ take c.len-base.result (view (vec_items c.append_table.new.rows)) ++ uncut c.args.field (table_from (g.S.Source.meaning c.args.source.now) c.args.field (values c.args.at))
+    whole = last_step (g.S.Source.meaning c.args.source.now) c.in-Some.here c.args.field c.in-Some.ensures c.args.at (take c.len-base.result (view (vec_items c.append_table.new.rows))) (view (vec_items c.loop-high.rows))
         c.loop-high.start c.loop-high.low c.loop-high.high c.loop-high.invariant.0 (omega (arith, c.loop-high.invariant.1, c.loop-high-test.false, c.top-top.ensures)) c.len-end-2.result long

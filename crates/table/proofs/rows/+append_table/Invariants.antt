@@ -4,8 +4,8 @@ use Rattle.table.specs.Rows.{view}
 use Rattle.table.proofs.Built.{Built}
 use Rattle.table.proofs.rows.+append_table.Given as goal
 
-abbrev pub decreases-append-table : goal.decreases-append-table
-decreases-append-table g l = length tops - l.field
+abbrev pub decreases-append_table : goal.decreases-append_table
+decreases-append_table g l = length tops - l.field
 
 -- behind the rows that were there stand the rows of the values so far
 abbrev pub invariant-loop-high : goal.invariant-loop-high

@@ -16,7 +16,7 @@ loop-row-preserved c = cut_more _ _ _ _ _ _ _ c.loop-row-test.true c.loop-row.au
 
 pub returns : goal.returns
 returns c =
-    let lent = c.deref-mut.result.now in
+    let lent = c.deref_mut.result.now in
     let part = c.loop-row.row-items in
     let start = c.args.start in
     let end = c.args.end in
@@ -24,6 +24,6 @@ returns c =
     record {
       rows = ap view (with_items_is c.args.rows.now (put_mid start (end - start) lent part) n)
           ∙ cut_put _ _ lent part start end c.requires.0 (cut_all _ _ _ _ _ c.loop-row-test.false c.loop-row.invariant)
-          ∙ ap (λ (a : List Row). cut_between start end (place c.args.field) c.args.range (view a)) c.deref-mut.ensures.value;
+          ∙ ap (λ (a : List Row). cut_between start end (place c.args.field) c.args.range (view a)) c.deref_mut.ensures.value;
       len = refl;
     }

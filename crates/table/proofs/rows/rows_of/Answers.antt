@@ -9,20 +9,20 @@ use Rattle.table.proofs.Exits.{none_made, handed_on}
 use Rattle.table.proofs.Steps.{uncut_none}
 use Rattle.table.proofs.rows.rows_of.Goals as goal
 
-pub returns-in-err-append-table : goal.returns-in-err-append-table
-returns-in-err-append-table g c =
+pub returns-in_err-append_table : goal.returns-in_err-append_table
+returns-in_err-append_table g c =
     let x = c.from-residual.ensures.1 in
     record {
       rows = none_made _ _ _ x;
       canonical = none_made _ _ _ x;
       few = none_made _ _ _ x;
-      refused = handed_on _ _ _ _ x (omega arith) c.in-err-append-table.ensures.refused;
+      refused = handed_on _ _ _ _ x (omega arith) c.in_err-append_table.ensures.refused;
     }
 
 pub returns : goal.returns
 returns g c =
     let m = g.S.Source.meaning c.args.source.now in
-    let u = c.in-ok-append-table.ensures in
+    let u = c.in_ok-append_table.ensures in
     let is = u.rows ∙ ap (λ (a : List Row). view a ++ uncut 0 (table tops m)) c.new-rows.ensures.items ∙ uncut_none (table tops m) in
     record {
       rows = is;

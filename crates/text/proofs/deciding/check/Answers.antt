@@ -24,7 +24,7 @@ loop-line-preserved g c =
     let read = read_word g.K.Kind.size g.K.Kind.silence g.K.Kind.spelling in
     let now-left = c.in-Some.ensures in
     let rules = c.loop-line.invariant.1 in
-    let told = counted_taken (c.loop-line.number + 1) rules c.loop-line.count c.loop-line.invariant.2 (line_of read c.in-Some.line.now) c.in-ok-count.count c.in-ok-count.ensures in (
+    let told = counted_taken (c.loop-line.number + 1) rules c.loop-line.count c.loop-line.invariant.2 (line_of read c.in-Some.line.now) c.in_ok-count.count c.in_ok-count.ensures in (
       omega (arith, ap extent now-left, c.loop-line.invariant.0),
       (add_line read (c.loop-line.number + 1) c.in-Some.line.now rules).rules,
       told.1,
@@ -32,13 +32,13 @@ loop-line-preserved g c =
           ∙ lines_more read (c.loop-line.number + 1) c.in-Some.line.now (left c.next.new.self) rules _ told.0 refl,
     )
 
-pub returns-in-err-count : goal.returns-in-err-count
-returns-in-err-count g c =
+pub returns-in_err-count : goal.returns-in_err-count
+returns-in_err-count g c =
     let read = read_word g.K.Kind.size g.K.Kind.silence g.K.Kind.spelling in
     let now-left = c.in-Some.ensures in
     let rules = c.loop-line.invariant.1 in
-    let fault = c.in-err-count.field-0.0 in
-    let told = counted_stop (c.loop-line.number + 1) rules c.loop-line.count c.loop-line.invariant.2 (line_of read c.in-Some.line.now) fault c.in-err-count.ensures in
+    let fault = c.in_err-count.field-0.0 in
+    let told = counted_stop (c.loop-line.number + 1) rules c.loop-line.count c.loop-line.invariant.2 (line_of read c.in-Some.line.now) fault c.in_err-count.ensures in
     let p = err_from_is_err_and c.from-residual.result c.from-residual.ensures.1 in
     let is = c.loop-line.invariant.3 ∙ ap (λ ls. lines_from read (c.loop-line.number + 1) ls rules) now-left
     ∙ lines_stop read (c.loop-line.number + 1) c.in-Some.line.now (left c.next.new.self) rules _ fault told refl in
@@ -48,5 +48,5 @@ pub returns : goal.returns
 returns g c =
     let read = read_word g.K.Kind.size g.K.Kind.silence g.K.Kind.spelling in
     let rules = c.loop-line.invariant.1 in
-    let is = c.loop-line.invariant.3 ∙ ap (λ ls. lines_from read (c.loop-line.number + 1) ls rules) c.in-default.ensures.0 ∙ lines_end read (c.loop-line.number + 1) rules in
+    let is = c.loop-line.invariant.3 ∙ ap (λ ls. lines_from read (c.loop-line.number + 1) ls rules) c.in_default.ensures.0 ∙ lines_end read (c.loop-line.number + 1) rules in
     sym (ap (λ (s : Reading). s.answer) is)

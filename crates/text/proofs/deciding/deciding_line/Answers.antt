@@ -4,8 +4,8 @@ use Rattle.text.proofs.deciding.deciding_line.Goals as goal
 
 pub returns : goal.returns
 returns g c =
-    let well = c.in-ok-check.ensures in
+    let well = c.in_ok-check.ensures in
     record {
-      place = line_borrowed g.K.Kind.size g.K.Kind.silence g.K.Kind.spelling (values c.args.packet) c.args.text well c.first-line.result c.first-line.ensures;
-      decision = line_decides g.K.Kind.size g.K.Kind.silence g.K.Kind.spelling (values c.args.packet) c.args.text well c.first-line.result c.first-line.ensures;
+      place = line_borrowed g.K.Kind.size g.K.Kind.silence g.K.Kind.spelling (values c.args.packet) c.args.text well c.first_line.result c.first_line.ensures;
+      decision = line_decides g.K.Kind.size g.K.Kind.silence g.K.Kind.spelling (values c.args.packet) c.args.text well c.first_line.result c.first_line.ensures;
     }

@@ -14,14 +14,14 @@ loop-line-init g c = (
   ap (first_line (read_word g.K.Kind.size g.K.Kind.silence g.K.Kind.spelling) (values c.args.packet) 0) (sym c.new-lines.ensures),
 )
 
-pub slice-bounds-result-end : goal.slice-bounds-result-end
-slice-bounds-result-end g c =
+pub slice_bounds-result-end : goal.slice_bounds-result-end
+slice_bounds-result-end g c =
     let cut = subst (Cut c.args.text.now c.loop-line.start) c.in-Some.ensures c.loop-line.invariant.1 in
     let within = cut_within c.args.text.now c.loop-line.start c.in-Some.line.now (left c.next.new.self) cut in
     search (rules, within)
 
-pub returns-then-line-holds : goal.returns-then-line-holds
-returns-then-line-holds g c =
+pub returns-then-line_holds : goal.returns-then-line_holds
+returns-then-line_holds g c =
     let read = read_word g.K.Kind.size g.K.Kind.silence g.K.Kind.spelling in
     let now-left = c.in-Some.ensures in
     let cut = subst (Cut c.args.text.now c.loop-line.start) now-left c.loop-line.invariant.1 in
@@ -30,7 +30,7 @@ returns-then-line-holds g c =
     let part = ap (λ n. take n (drop c.loop-line.start c.args.text.now)) (let e : c.loop-line.start + length c.in-Some.line.now - c.loop-line.start ≡ length c.in-Some.line.now = omega arith in e) in (
       record { start = c.loop-line.start; line = c.in-Some.line.now },
       c.loop-line.invariant.2 ∙ ap (first_line read (values c.args.packet) c.loop-line.start) now-left
-          ∙ line_here read (values c.args.packet) c.loop-line.start c.in-Some.line.now (left c.next.new.self) c.if-line-holds.ensures,
+          ∙ line_here read (values c.args.packet) c.loop-line.start c.in-Some.line.now (left c.next.new.self) c.if-line_holds.ensures,
       record { block = refl; offset = search rules; bytes = part ∙ sym bytes; of_text = part; within = within },
     )
 
@@ -42,10 +42,10 @@ loop-line-preserved g c =
       omega (arith, ap extent now-left, c.loop-line.invariant.0),
       cut_more c.args.text.now c.loop-line.start c.in-Some.line.now (left c.next.new.self) cut,
       c.loop-line.invariant.2 ∙ ap (first_line read (values c.args.packet) c.loop-line.start) now-left
-          ∙ line_later read (values c.args.packet) c.loop-line.start c.in-Some.line.now (left c.next.new.self) c.if-line-holds.ensures,
+          ∙ line_later read (values c.args.packet) c.loop-line.start c.in-Some.line.now (left c.next.new.self) c.if-line_holds.ensures,
     )
 
 pub returns : goal.returns
 returns g c =
     let read = read_word g.K.Kind.size g.K.Kind.silence g.K.Kind.spelling in
-    c.loop-line.invariant.2 ∙ ap (first_line read (values c.args.packet) c.loop-line.start) c.in-default.ensures.0 ∙ line_none read (values c.args.packet) c.loop-line.start
+    c.loop-line.invariant.2 ∙ ap (first_line read (values c.args.packet) c.loop-line.start) c.in_default.ensures.0 ∙ line_none read (values c.args.packet) c.loop-line.start

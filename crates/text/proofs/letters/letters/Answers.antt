@@ -2,8 +2,8 @@ use Rattle.std.proofs.Common.{rules}
 use Rattle.text.proofs.Lettered.{letter_more, letter_stop, letter_end}
 use Rattle.text.proofs.letters.letters.Goals as goal
 
-pub returns-then-not-is-letter : goal.returns-then-not-is-letter
-returns-then-not-is-letter c = search (rules, letter_stop)
+pub returns-then-not-is_letter : goal.returns-then-not-is_letter
+returns-then-not-is_letter c = search (rules, letter_stop)
 
 pub loop-index-preserved : goal.loop-index-preserved
 loop-index-preserved c = search (rules, letter_more)

@@ -1,4 +1,4 @@
 use Rattle.text.proofs.print.+push_bytes.Given as goal
 
-abbrev pub decreases-push-bytes : goal.decreases-push-bytes
-decreases-push-bytes l = l.more
+abbrev pub decreases-push_bytes : goal.decreases-push_bytes
+decreases-push_bytes l = l.more

@@ -5,14 +5,14 @@ use Rattle.text.proofs.print.print_line.Goals as goal
 pub truncate-requires : goal.truncate-requires
 truncate-requires g c κs = λ within.
     let long : c.len-length.result ≡ length (string_bytes c.args.out.now) = c.len-length.ensures ∙ c.args.out.now.bytes.ok.0 in
-    let begins = appended_begins c.push-line-printed.result _ _ _ c.push-line-printed.ensures in
-    let after = string_bytes c.push-line-printed.new.out in (
-      omega (arith, c.push-line-printed.new.out.bytes.ok.0),
+    let begins = appended_begins c.push_line-printed.result _ _ _ c.push_line-printed.ensures in
+    let after = string_bytes c.push_line-printed.new.out in (
+      omega (arith, c.push_line-printed.new.out.bytes.ok.0),
       λ some short high. subst (λ (n : ℕ). 192 ≤ get_or after n 0) (sym long)
-          (boundary_behind _ begins.0 after c.args.out.now.ok c.push-line-printed.new.out.ok begins.1 (subst (λ (n : ℕ). n < length after) long short) (subst (λ (n : ℕ). 128 ≤ get_or after n 0) long high)),
+          (boundary_behind _ begins.0 after c.args.out.now.ok c.push_line-printed.new.out.ok begins.1 (subst (λ (n : ℕ). n < length after) long short) (subst (λ (n : ℕ). 128 ≤ get_or after n 0) long high)),
     )
 
-pub returns-then-is-err : goal.returns-then-is-err
-returns-then-is-err g c =
-    c.truncate.ensures.bytes ∙ cut_back c.push-line-printed.result _ _ _ _ (c.len-length.ensures ∙ c.args.out.now.bytes.ok.0) c.push-line-printed.ensures
-    ∙ nothing_written c.push-line-printed.result _ _ c.if-is-err.ensures.value
+pub returns-then-is_err : goal.returns-then-is_err
+returns-then-is_err g c =
+    c.truncate.ensures.bytes ∙ cut_back c.push_line-printed.result _ _ _ _ (c.len-length.ensures ∙ c.args.out.now.bytes.ok.0) c.push_line-printed.ensures
+    ∙ nothing_written c.push_line-printed.result _ _ c.if-is_err.ensures.value

@@ -9,15 +9,15 @@ use Rattle.text.proofs.print.push_ranges.Goals as goal
 pub loop-field-init : goal.loop-field-init
 loop-field-init c = (omega arith, ([], sym (append-nil _), refl))
 
-pub returns-in-err-push-letter : goal.returns-in-err-push-letter
-returns-in-err-push-letter c =
-    appended_break c.from-residual.result _ c.loop-field.invariant.1.0 _ _ _ c.from-residual.ensures.0 c.loop-field.invariant.1.1 c.in-err-push-letter.ensures
+pub returns-in_err-push_letter : goal.returns-in_err-push_letter
+returns-in_err-push_letter c =
+    appended_break c.from-residual.result _ c.loop-field.invariant.1.0 _ _ _ c.from-residual.ensures.0 c.loop-field.invariant.1.1 c.in_err-push_letter.ensures
 
-pub returns-in-err-push-range : goal.returns-in-err-push-range
-returns-in-err-push-range c =
+pub returns-in_err-push_range : goal.returns-in_err-push_range
+returns-in_err-push_range c =
     let so_far = c.loop-field.invariant.1.0 in
-    appended_break c.from-residual-in-err-push-range.result _ (so_far ++ (32 ∷ [])) _ _ _ c.from-residual-in-err-push-range.ensures.0
-    (c.in-ok-push-letter.ensures ∙ ap (λ bs. bs ++ (32 ∷ [])) c.loop-field.invariant.1.1 ∙ append_assoc _ so_far (32 ∷ [])) c.in-err-push-range.ensures
+    appended_break c.from-residual-in_err-push_range.result _ (so_far ++ (32 ∷ [])) _ _ _ c.from-residual-in_err-push_range.ensures.0
+    (c.in_ok-push_letter.ensures ∙ ap (λ bs. bs ++ (32 ∷ [])) c.loop-field.invariant.1.1 ∙ append_assoc _ so_far (32 ∷ [])) c.in_err-push_range.ensures
 
 pub loop-field-preserved : goal.loop-field-preserved
 loop-field-preserved c =
@@ -26,7 +26,7 @@ loop-field-preserved c =
       omega (arith, field_within c.in-Some.field, c.in-Some.ensures),
       (
         so_far ++ (32 ∷ text),
-        c.in-ok-push-range.ensures ∙ ap (λ bs. bs ++ text) (c.in-ok-push-letter.ensures ∙ ap (λ bs. bs ++ (32 ∷ [])) c.loop-field.invariant.1.1) ∙ append_assoc _ (32 ∷ []) text ∙ append_assoc _ so_far (32 ∷ text),
+        c.in_ok-push_range.ensures ∙ ap (λ bs. bs ++ text) (c.in_ok-push_letter.ensures ∙ ap (λ bs. bs ++ (32 ∷ [])) c.loop-field.invariant.1.1) ∙ append_assoc _ (32 ∷ []) text ∙ append_assoc _ so_far (32 ∷ text),
         c.loop-field.invariant.1.2 ∙ ap (λ t. so_far ++ t) (ranges_text_more c.in-Some.field c.loop-field.index c.in-Some.ensures (ranges c.args.region) c.range.result refl c.range.ensures) ∙ sym (append_assoc so_far (32 ∷ text) _),
       ),
     )
@@ -34,4 +34,4 @@ loop-field-preserved c =
 pub returns : goal.returns
 returns c =
     let so_far = c.loop-field.invariant.1.0 in
-    c.loop-field.invariant.1.1 ∙ ap (λ t. string_bytes c.args.out.now ++ t) (sym (c.loop-field.invariant.1.2 ∙ ap (λ t. so_far ++ t) (ranges_text_end c.loop-field.index _ c.in-default.ensures) ∙ append-nil so_far))
+    c.loop-field.invariant.1.1 ∙ ap (λ t. string_bytes c.args.out.now ++ t) (sym (c.loop-field.invariant.1.2 ∙ ap (λ t. so_far ++ t) (ranges_text_end c.loop-field.index _ c.in_default.ensures) ∙ append-nil so_far))

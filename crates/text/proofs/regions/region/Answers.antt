@@ -15,29 +15,29 @@ use Rattle.text.proofs.regions.region.Goals as goal
 abbrev as_region : Result (List (Range ℕ)) LineFault → Result Region LineFault
 as_region read = then read (λ ranges. Ok (region_of ranges))
 
-pub returns-in-default-next : goal.returns-in-default-next
-returns-in-default-next c =
+pub returns-in_default-next : goal.returns-in_default-next
+returns-in_default-next c =
     let so_far = take c.loop-field.index (ranges c.loop-field.region) in
     sym (ap as_region (c.loop-field.invariant.1
-    ∙ ap (λ ws. before so_far (ranges_from (drop c.loop-field.index fields) c.loop-field.words.column ws)) c.in-default-next.ensures.0
+    ∙ ap (λ ws. before so_far (ranges_from (drop c.loop-field.index fields) c.loop-field.words.column ws)) c.in_default-next.ensures.0
     ∙ ap (before so_far) (ranges_few c.in-Some.field c.loop-field.index c.in-Some.ensures c.loop-field.words.column)))
 
-pub returns-in-err-range : goal.returns-in-err-range
-returns-in-err-range c =
+pub returns-in_err-range : goal.returns-in_err-range
+returns-in_err-range c =
     let so_far = take c.loop-field.index (ranges c.loop-field.region) in
     let taken = c.in-Some-next.ensures in
     let p = err_from_is_err_and c.from-residual.result c.from-residual.ensures.1 in
     rw (p.1, p.2) (sym (ap as_region (c.loop-field.invariant.1
     ∙ ap (λ ws. before so_far (ranges_from (drop c.loop-field.index fields) c.loop-field.words.column ws)) taken.words_are
     ∙ ap (before so_far) (ranges_fault c.in-Some.field c.loop-field.index c.in-Some.ensures c.loop-field.words.column _ _ _
-    (c.in-err-range.ensures _ _ taken.stands)))))
+    (c.in_err-range.ensures _ _ taken.stands)))))
 
 pub loop-field-preserved : goal.loop-field-preserved
 loop-field-preserved c =
     let so_far = take c.loop-field.index (ranges c.loop-field.region) in
     let taken = c.in-Some-next.ensures in
-    let read = c.in-ok-range.ensures _ _ taken.stands in
-    let now-placed = placed c.in-Some.field c.loop-field.index (ranges c.loop-field.region) (ranges c.with-region.result) c.in-ok-range.field-0
+    let read = c.in_ok-range.ensures _ _ taken.stands in
+    let now-placed = placed c.in-Some.field c.loop-field.index (ranges c.loop-field.region) (ranges c.with-region.result) c.in_ok-range.field-0
     c.in-Some.ensures refl (range_sound c.in-Some.field _ _ _ read) c.with-region.ensures in (
       omega (arith, field_within c.in-Some.field, c.in-Some.ensures),
       c.loop-field.invariant.1
@@ -50,5 +50,5 @@ pub returns : goal.returns
 returns c =
     let rs = ranges c.loop-field.region in
     sym (ap as_region (c.loop-field.invariant.1
-    ∙ ap (before (take c.loop-field.index rs)) (ranges_end c.loop-field.index _ _ c.in-default.ensures)
-    ∙ ap Ok (append-nil (take c.loop-field.index rs) ∙ take_all c.loop-field.index rs c.in-default.ensures)))
+    ∙ ap (before (take c.loop-field.index rs)) (ranges_end c.loop-field.index _ _ c.in_default.ensures)
+    ∙ ap Ok (append-nil (take c.loop-field.index rs) ∙ take_all c.loop-field.index rs c.in_default.ensures)))

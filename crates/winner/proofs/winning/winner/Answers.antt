@@ -8,11 +8,11 @@ pub returns-in-Some-default : goal.returns-in-Some-default
 returns-in-Some-default g c =
     let read = read_word g.K.Kind.size g.K.Kind.silence g.K.Kind.spelling in
     let upper = c.in-Ok.ensures in
-    let lower = c.in-Ok-deciding-line.ensures in
+    let lower = c.in-Ok-deciding_line.ensures in
     record {
-      place = first-wins c.in-Ok.line c.in-Ok-deciding-line.line c.in-Some-default.line c.args.first c.args.second
+      place = first-wins c.in-Ok.line c.in-Ok-deciding_line.line c.in-Some-default.line c.args.first c.args.second
           (place_of read (values c.args.packet)) upper.place lower.place c.in-Some-default.is-0;
-      decision = first-settles c.in-Ok.line c.in-Ok-deciding-line.line c.in-Some-default.line c.args.first c.args.second
+      decision = first-settles c.in-Ok.line c.in-Ok-deciding_line.line c.in-Some-default.line c.args.first c.args.second
           g.K.Kind.size g.K.Kind.silence read (values c.args.packet) upper.decision c.in-Some-default.is-0;
     }
 
@@ -20,10 +20,10 @@ pub returns-in-None-Some : goal.returns-in-None-Some
 returns-in-None-Some g c =
     let read = read_word g.K.Kind.size g.K.Kind.silence g.K.Kind.spelling in
     let upper = c.in-Ok.ensures in
-    let lower = c.in-Ok-deciding-line.ensures in
+    let lower = c.in-Ok-deciding_line.ensures in
     record {
-      place = second-wins c.in-Ok.line c.in-Ok-deciding-line.line c.in-None-Some.line c.args.first c.args.second
+      place = second-wins c.in-Ok.line c.in-Ok-deciding_line.line c.in-None-Some.line c.args.first c.args.second
           (place_of read (values c.args.packet)) upper.place lower.place c.in-None-Some.is-0 c.in-None-Some.is-1;
-      decision = second-settles c.in-Ok.line c.in-Ok-deciding-line.line c.in-None-Some.line c.args.first c.args.second
+      decision = second-settles c.in-Ok.line c.in-Ok-deciding_line.line c.in-None-Some.line c.args.first c.args.second
           g.K.Kind.size g.K.Kind.silence read (values c.args.packet) upper.decision c.in-None-Some.is-0 c.in-None-Some.is-1 lower.decision;
     }

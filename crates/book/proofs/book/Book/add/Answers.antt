@@ -3,7 +3,7 @@ use Rattle.book.specs.Rules.{Forward}
 use Rattle.book.proofs.Edited.{forward_inserted}
 use Rattle.book.proofs.book.Book.add.Goals as goal
 
-pub invariant-of-self : goal.invariant-of-self
-invariant-of-self g c =
+pub invariant_of-self : goal.invariant_of-self
+invariant_of-self g c =
     let fine : Forward c.args.rule = search rules in
     (search rules, (search rules, (forward_inserted _ _ _ _ (is_ok c.insert.result) c.insert.ensures.items c.args.self.now.forward fine, tt)))

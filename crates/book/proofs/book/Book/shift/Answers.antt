@@ -3,8 +3,8 @@ use Rattle.book.specs.Rules.{Forward}
 use Rattle.book.proofs.Edited.{forward_inserted, forward_removed}
 use Rattle.book.proofs.book.Book.shift.Goals as goal
 
-pub invariant-of-self : goal.invariant-of-self
-invariant-of-self g c =
+pub invariant_of-self : goal.invariant_of-self
+invariant_of-self g c =
     let before = c.args.self.now.forward in
     let rule = c.remove-rule.result in
     let fine : Forward rule = subst Forward (sym c.remove-rule.ensures.value) (before _ rule (search rules)) in

@@ -3,5 +3,5 @@ use Rattle.text.specs.Pieces.{extent}
 use Rattle.text.proofs.Cuts.{extent_pieces}
 use Rattle.text.proofs.lexer.Lexer.new.Goals as goal
 
-pub invariant-of-result : goal.invariant-of-result
-invariant-of-result c = (omega (arith, ap extent c.new.ensures, extent_pieces 32 c.args.line.now, c.requires), tt)
+pub invariant_of-result : goal.invariant_of-result
+invariant_of-result c = (omega (arith, ap extent c.new.ensures, extent_pieces 32 c.args.line.now, c.requires), tt)
