@@ -52,7 +52,7 @@ returns-in_err-check_block g c =
     let good = right_length bytes c.if-length-eq0.false c.if-length-ne0.false c.if-length-gt-MOST_BYTES.false in
     let d = was_damage _ _ tt c.in_err-check_block.ensures in
     record {
-      answer = same_error _ _ c.from-residual.ensures.1 ∙ by-block label size bytes good c.loop-number.number _ c.loop-number-test.true c.loop-number.invariant d;
+      answer = same_error _ _ c.from_residual.ensures.1 ∙ by-block label size bytes good c.loop-number.number _ c.loop-number-test.true c.loop-number.invariant d;
       words = says label size bytes;
     }
 
@@ -75,7 +75,7 @@ returns-in_err-check_nesting g c =
     let good = right_length bytes c.if-length-eq0.false c.if-length-ne0.false c.if-length-gt-MOST_BYTES.false in
     let all = blocks label size bytes good c.if-length-eq0.false c.if-length-ne0.false c.loop-number.number c.loop-number-test.false c.loop-number.auto.number-end c.loop-number.invariant c.number_at-last.result c.number_at-last.ensures.value in
     record {
-      answer = same_error _ _ c.from-residual-in_err-check_nesting.ensures.1 ∙ by-nesting label size bytes good all _ (was_damage _ _ tt c.in_err-check_nesting.ensures);
+      answer = same_error _ _ c.from_residual-in_err-check_nesting.ensures.1 ∙ by-nesting label size bytes good all _ (was_damage _ _ tt c.in_err-check_nesting.ensures);
       words = says label size bytes;
     }
 
@@ -94,7 +94,7 @@ returns-in_err-check_neighbours g c =
     let good = right_length bytes c.if-length-eq0.false c.if-length-ne0.false c.if-length-gt-MOST_BYTES.false in
     let all = blocks label size bytes good c.if-length-eq0.false c.if-length-ne0.false c.loop-number.number c.loop-number-test.false c.loop-number.auto.number-end c.loop-number.invariant c.number_at-last.result c.number_at-last.ensures.value in
     record {
-      answer = same_error _ _ c.from-residual-in_err-check_neighbours.ensures.1 ∙ by-neighbours label size bytes good all _ (was_none _ tt tt c.in_ok-check_nesting.ensures).0 (was_damage _ _ tt c.in_err-check_neighbours.ensures);
+      answer = same_error _ _ c.from_residual-in_err-check_neighbours.ensures.1 ∙ by-neighbours label size bytes good all _ (was_none _ tt tt c.in_ok-check_nesting.ensures).0 (was_damage _ _ tt c.in_err-check_neighbours.ensures);
       words = says label size bytes;
     }
 

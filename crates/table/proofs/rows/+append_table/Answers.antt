@@ -24,7 +24,7 @@ returns-in_default g t c = record {
 
 pub returns-in_err-append_table : goal.returns-in_err-append_table
 returns-in_err-append_table g t c =
-    let x = c.from-residual-in_err-append_table.ensures.1 in
+    let x = c.from_residual-in_err-append_table.ensures.1 in
     record {
       rows = none_made _ _ _ x;
       few = none_made _ _ _ x;
@@ -52,7 +52,7 @@ loop-high-init g t c =
 
 pub returns-in_err-append_table-2 : goal.returns-in_err-append_table-2
 returns-in_err-append_table-2 g t c =
-    let x = c.from-residual-in_err-append_table-2.ensures.1 in
+    let x = c.from_residual-in_err-append_table-2.ensures.1 in
     record {
       rows = none_made _ _ _ x;
       few = none_made _ _ _ x;

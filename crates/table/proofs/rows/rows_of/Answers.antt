@@ -11,7 +11,7 @@ use Rattle.table.proofs.rows.rows_of.Goals as goal
 
 pub returns-in_err-append_table : goal.returns-in_err-append_table
 returns-in_err-append_table g c =
-    let x = c.from-residual.ensures.1 in
+    let x = c.from_residual.ensures.1 in
     record {
       rows = none_made _ _ _ x;
       canonical = none_made _ _ _ x;

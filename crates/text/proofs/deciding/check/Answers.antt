@@ -39,7 +39,7 @@ returns-in_err-count g c =
     let rules = c.loop-line.invariant.1 in
     let fault = c.in_err-count.field-0.0 in
     let told = counted_stop (c.loop-line.number + 1) rules c.loop-line.count c.loop-line.invariant.2 (line_of read c.in-Some.line.now) fault c.in_err-count.ensures in
-    let p = err_from_is_err_and c.from-residual.result c.from-residual.ensures.1 in
+    let p = err_from_is_err_and c.from_residual.result c.from_residual.ensures.1 in
     let is = c.loop-line.invariant.3 ∙ ap (λ ls. lines_from read (c.loop-line.number + 1) ls rules) now-left
     ∙ lines_stop read (c.loop-line.number + 1) c.in-Some.line.now (left c.next.new.self) rules _ fault told refl in
     rw (p.1, p.2) (sym (ap (λ (s : Reading). s.answer) is))

@@ -13,12 +13,12 @@ overflow_mul-value c = omega (arith, (room c.loop-index.-index c.loop-index.valu
 
 pub returns-in_err-next : goal.returns-in_err-next
 returns-in_err-next c =
-    rw c.from-residual.ensures
+    rw c.from_residual.ensures
     (sym (c.loop-index.invariant.1 ∙ ap (bytes_from (4 - c.loop-index.-index) c.loop-index.value) c.in_err-next.ensures.0 ∙ bytes_few _ _ c.loop-index-test.true))
 
 pub returns-in_err-value : goal.returns-in_err-value
 returns-in_err-value c =
-    rw c.from-residual-in_err-value.ensures
+    rw c.from_residual-in_err-value.ensures
     (sym (c.loop-index.invariant.1 ∙ ap (bytes_from (4 - c.loop-index.-index) c.loop-index.value) c.in_ok-next.ensures
     ∙ bytes_stop _ _ c.loop-index-test.true _ _ c.in_err-value.ensures))
 

@@ -11,7 +11,7 @@ pub loop-byte-init : goal.loop-byte-init
 loop-byte-init c = (omega arith, number_plain _ _ c.if-not-is_plain.ensures)
 
 pub returns-in_err-digit : goal.returns-in_err-digit
-returns-in_err-digit c = rw c.from-residual.ensures (sym (c.loop-byte.invariant.1 ∙ ap (at_most c.args.top) (value_stop _ _ _ c.loop-byte-test.true c.in_err-digit.ensures)))
+returns-in_err-digit c = rw c.from_residual.ensures (sym (c.loop-byte.invariant.1 ∙ ap (at_most c.args.top) (value_stop _ _ _ c.loop-byte-test.true c.in_err-digit.ensures)))
 
 pub returns-then-wide-from : goal.returns-then-wide-from
 returns-then-wide-from c =

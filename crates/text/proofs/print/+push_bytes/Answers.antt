@@ -6,7 +6,7 @@ returns-then-more-eq0 t c = appended_as c.push_number.result _ _ _ _ (byte_last 
 
 pub returns-in_err-push_letter : goal.returns-in_err-push_letter
 returns-in_err-push_letter t c =
-    appended_break c.from-residual-in_err-push_letter.result _ _ _ _ _ c.from-residual-in_err-push_letter.ensures.0 c.in_ok-push_bytes.ensures c.in_err-push_letter.ensures
+    appended_break c.from_residual-in_err-push_letter.result _ _ _ _ _ c.from_residual-in_err-push_letter.ensures.0 c.in_ok-push_bytes.ensures c.in_err-push_letter.ensures
 
 pub returns : goal.returns
 returns t c =

@@ -11,7 +11,7 @@ returns-then-range c =
 
 pub returns-in_err-push_letter : goal.returns-in_err-push_letter
 returns-in_err-push_letter c =
-    appended_break c.from-residual-in_err-push_letter.result _ _ _ _ _ c.from-residual-in_err-push_letter.ensures.0 c.in_ok-push_value.ensures c.in_err-push_letter.ensures
+    appended_break c.from_residual-in_err-push_letter.result _ _ _ _ _ c.from_residual-in_err-push_letter.ensures.0 c.in_ok-push_value.ensures c.in_err-push_letter.ensures
 
 pub returns : goal.returns
 returns c =

@@ -11,12 +11,12 @@ loop-field-init c = (omega arith, ([], sym (append-nil _), refl))
 
 pub returns-in_err-push_letter : goal.returns-in_err-push_letter
 returns-in_err-push_letter c =
-    appended_break c.from-residual.result _ c.loop-field.invariant.1.0 _ _ _ c.from-residual.ensures.0 c.loop-field.invariant.1.1 c.in_err-push_letter.ensures
+    appended_break c.from_residual.result _ c.loop-field.invariant.1.0 _ _ _ c.from_residual.ensures.0 c.loop-field.invariant.1.1 c.in_err-push_letter.ensures
 
 pub returns-in_err-push_range : goal.returns-in_err-push_range
 returns-in_err-push_range c =
     let so_far = c.loop-field.invariant.1.0 in
-    appended_break c.from-residual-in_err-push_range.result _ (so_far ++ (32 ∷ [])) _ _ _ c.from-residual-in_err-push_range.ensures.0
+    appended_break c.from_residual-in_err-push_range.result _ (so_far ++ (32 ∷ [])) _ _ _ c.from_residual-in_err-push_range.ensures.0
     (c.in_ok-push_letter.ensures ∙ ap (λ bs. bs ++ (32 ∷ [])) c.loop-field.invariant.1.1 ∙ append_assoc _ so_far (32 ∷ [])) c.in_err-push_range.ensures
 
 pub loop-field-preserved : goal.loop-field-preserved

@@ -30,7 +30,7 @@ pub returns-in_err-add_line : goal.returns-in_err-add_line
 returns-in_err-add_line g c =
     let now-left = c.in-Some.ensures in
     let told = c.in_err-add_line.ensures in
-    let p = err_from_is_err_and c.from-residual.result c.from-residual.ensures.1 in
+    let p = err_from_is_err_and c.from_residual.result c.from_residual.ensures.1 in
     let is = c.loop-line.invariant.1 ∙ ap (λ ls. lines_from (read_word g.K.Kind.size g.K.Kind.silence g.K.Kind.spelling) (c.loop-line.number + 1) ls (rules_of c.loop-line.book)) now-left
     ∙ lines_stop (read_word g.K.Kind.size g.K.Kind.silence g.K.Kind.spelling) (c.loop-line.number + 1) c.in-Some.line.now (left c.next.new.self) (rules_of c.loop-line.book) (rules_of c.add_line.new.book) c.in_err-add_line.field-0.0 told.answer told.rules in
     record { answer = rw (p.1, p.2) (sym (ap (λ (s : Reading). s.answer) is)); rules = sym (ap (λ (s : Reading). s.rules) is) }

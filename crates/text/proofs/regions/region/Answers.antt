@@ -26,7 +26,7 @@ pub returns-in_err-range : goal.returns-in_err-range
 returns-in_err-range c =
     let so_far = take c.loop-field.index (ranges c.loop-field.region) in
     let taken = c.in-Some-next.ensures in
-    let p = err_from_is_err_and c.from-residual.result c.from-residual.ensures.1 in
+    let p = err_from_is_err_and c.from_residual.result c.from_residual.ensures.1 in
     rw (p.1, p.2) (sym (ap as_region (c.loop-field.invariant.1
     ∙ ap (λ ws. before so_far (ranges_from (drop c.loop-field.index fields) c.loop-field.words.column ws)) taken.words_are
     ∙ ap (before so_far) (ranges_fault c.in-Some.field c.loop-field.index c.in-Some.ensures c.loop-field.words.column _ _ _

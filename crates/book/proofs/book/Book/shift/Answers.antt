@@ -8,4 +8,4 @@ invariant_of-self g c =
     let before = c.args.self.now.forward in
     let rule = c.remove-rule.result in
     let fine : Forward rule = subst Forward (sym c.remove-rule.ensures.value) (before _ rule (search rules)) in
-    (search rules, (search rules, (forward_inserted _ _ _ _ (is_ok c.insert.result) c.insert.ensures.items (forward_removed _ _ _ c.remove-rule.ensures.items before) fine, tt)))
+    record { few = search rules; room = search rules; forward = forward_inserted _ _ _ _ (is_ok c.insert.result) c.insert.ensures.items (forward_removed _ _ _ c.remove-rule.ensures.items before) fine }

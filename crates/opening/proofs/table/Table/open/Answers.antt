@@ -7,7 +7,7 @@ use Rattle.opening.proofs.table.Table.open.Goals as goal
 pub returns-in_err-rows : goal.returns-in_err-rows
 returns-in_err-rows g c =
     let damage = was_damage _ _ _ c.in_err-rows.ensures.answer in
-    let told = told_damaged g.K.Kind.label g.K.Kind.size g.K.Kind.silence g.met.K.Kind.bounds.byte g.met.K.Kind.bounds.few c.args.bytes.now _ _ (same_error _ _ c.from-residual.ensures.1) damage in
+    let told = told_damaged g.K.Kind.label g.K.Kind.size g.K.Kind.silence g.met.K.Kind.bounds.byte g.met.K.Kind.bounds.few c.args.bytes.now _ _ (same_error _ _ c.from_residual.ensures.1) damage in
     record { answer = told.0; decides = told.1; packs_back = told.2 }
 
 pub invariant_of-result : goal.invariant_of-result
