@@ -9,22 +9,22 @@ unfolding address_of
 loop-index-init c = (omega arith, ap (bytes_from 4 0) (sym c.new-parts.ensures))
 
 pub overflow_mul-value : goal.overflow_mul-value
-overflow_mul-value c = omega (arith, (room c.loop-index.-index c.loop-index.value 0 c.loop-index-test.true c.loop-index.invariant.0 (omega arith)).1)
+overflow_mul-value c = omega (arith, (room c.loop-index._index c.loop-index.value 0 c.loop-index-test.true c.loop-index.invariant.0 (omega arith)).1)
 
 pub returns-in_err-next : goal.returns-in_err-next
 returns-in_err-next c =
     rw c.from_residual.ensures
-    (sym (c.loop-index.invariant.1 ∙ ap (bytes_from (4 - c.loop-index.-index) c.loop-index.value) c.in_err-next.ensures.0 ∙ bytes_few _ _ c.loop-index-test.true))
+    (sym (c.loop-index.invariant.1 ∙ ap (bytes_from (4 - c.loop-index._index) c.loop-index.value) c.in_err-next.ensures.0 ∙ bytes_few _ _ c.loop-index-test.true))
 
 pub returns-in_err-value : goal.returns-in_err-value
 returns-in_err-value c =
     rw c.from_residual-in_err-value.ensures
-    (sym (c.loop-index.invariant.1 ∙ ap (bytes_from (4 - c.loop-index.-index) c.loop-index.value) c.in_ok-next.ensures
+    (sym (c.loop-index.invariant.1 ∙ ap (bytes_from (4 - c.loop-index._index) c.loop-index.value) c.in_ok-next.ensures
     ∙ bytes_stop _ _ c.loop-index-test.true _ _ c.in_err-value.ensures))
 
-roomy : (c : goal.In-ok-value) → (c.loop-index.value * 256 + c.in_ok-value.field-0 < 256 ^ (c.loop-index.-index + 1)) × (c.loop-index.value * 256 + c.in_ok-value.field-0 < 2 ^ 32)
+roomy : (c : goal.In_ok-value) → (c.loop-index.value * 256 + c.in_ok-value.field-0 < 256 ^ (c.loop-index._index + 1)) × (c.loop-index.value * 256 + c.in_ok-value.field-0 < 2 ^ 32)
 roomy c =
-    room c.loop-index.-index c.loop-index.value c.in_ok-value.field-0 c.loop-index-test.true c.loop-index.invariant.0
+    room c.loop-index._index c.loop-index.value c.in_ok-value.field-0 c.loop-index-test.true c.loop-index.invariant.0
     (number_top 255 c.in_ok-value.field-0 c.in_ok-next.field-0.now c.in_ok-value.ensures)
 
 pub overflow_add-value : goal.overflow_add-value
@@ -33,14 +33,14 @@ overflow_add-value c = omega (arith, (roomy c).1)
 pub loop-index-preserved : goal.loop-index-preserved
 loop-index-preserved c = (
   (roomy c).0,
-  c.loop-index.invariant.1 ∙ ap (bytes_from (4 - c.loop-index.-index) c.loop-index.value) c.in_ok-next.ensures
+  c.loop-index.invariant.1 ∙ ap (bytes_from (4 - c.loop-index._index) c.loop-index.value) c.in_ok-next.ensures
       ∙ bytes_more _ _ c.loop-index-test.true _ _ _ c.in_ok-value.ensures,
 )
 
 pub returns-in-None : goal.returns-in-None
 returns-in-None c =
-    sym (c.loop-index.invariant.1 ∙ ap (bytes_from (4 - c.loop-index.-index) c.loop-index.value) c.in-None.ensures.0 ∙ bytes_end _ _ c.loop-index-test.false)
+    sym (c.loop-index.invariant.1 ∙ ap (bytes_from (4 - c.loop-index._index) c.loop-index.value) c.in-None.ensures.0 ∙ bytes_end _ _ c.loop-index-test.false)
 
 pub returns-in-Some : goal.returns-in-Some
 returns-in-Some c =
-    sym (c.loop-index.invariant.1 ∙ ap (bytes_from (4 - c.loop-index.-index) c.loop-index.value) c.in-Some.ensures ∙ bytes_many _ _ c.loop-index-test.false _ _)
+    sym (c.loop-index.invariant.1 ∙ ap (bytes_from (4 - c.loop-index._index) c.loop-index.value) c.in-Some.ensures ∙ bytes_many _ _ c.loop-index-test.false _ _)

@@ -3,7 +3,7 @@ use Rattle.text.proofs.Appends.{appended_begins, cut_back, nothing_written, boun
 use Rattle.text.proofs.print.print_line.Goals as goal
 
 pub truncate-requires : goal.truncate-requires
-truncate-requires g c κs = λ within.
+truncate-requires g c =
     let long : c.len-length.result ≡ length (string_bytes c.args.out.now) = c.len-length.ensures ∙ c.args.out.now.bytes.ok.0 in
     let begins = appended_begins c.push_line-printed.result _ _ _ c.push_line-printed.ensures in
     let after = string_bytes c.push_line-printed.new.out in (
