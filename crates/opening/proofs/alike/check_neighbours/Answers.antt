@@ -40,5 +40,5 @@ pub returns : goal.returns
 unfolding neighbour_damage
 returns c =
     let bytes = c.args.bytes.now in
-    let all : c.loop-row.row ≡ length (rows_in bytes) = omega (arith, long bytes c.args.rows c.requires, some bytes c.args.rows c.requires, c.loop-row-test.false, c.loop-row.auto.row_end) in
+    let all : c.loop-row.row ≡ length (rows_in bytes) = omega (arith, long bytes c.args.rows c.requires, some bytes c.args.rows c.requires, c.loop-row-test.false, c.loop-row.auto.row-end) in
     ap (λ o. unless o tt) (sym (ap (λ n. first n (at bytes)) (sym all) ∙ c.loop-row.invariant))

@@ -7,7 +7,7 @@ use Rattle.opening.specs.Answers.{unless}
 use Rattle.opening.specs.Damages.{foreign, found, first}
 use Rattle.opening.specs.Firsts.{first_found, first_step, some_found, none_found}
 use Rattle.opening.proofs.framing.check_rows.Goals as goal
-use Rattle.opening.proofs.framing.check_rows.Goals.{then-row-kind_number-via-then-row-kind_number, then-row-kind_number-via-else-row-kind_number+then-row_decision-count}
+use Rattle.opening.proofs.framing.check_rows.Goals.{then-row-kind_number-via-then-row-kind_number, then-row-kind_number-via-else-row-kind_number+then-row-decision_count}
 
 -- what is read in a row's bytes tells whether it is foreign
 module _ (label size : ℕ) (bytes : List ℕ) (i : ℕ) (row : List ℕ) (is : row ≡ row_slice bytes i) (kind count : ℕ) (k : kind ≡ label) (n : count ≡ size) where
@@ -39,8 +39,8 @@ returns-then-row-kind_number g c =
     let j = c.loop-j.j in
     let is : foreign label size bytes (start + j) ≡ true = elim c.then-row-kind_number.branch [
       | then-row-kind_number-via-then-row-kind_number w ↦ other_kind label size bytes (start + j) c.row_at-row.result.now c.row_at-row.ensures.value c.kind_number.result size c.kind_number.ensures refl w.if-row-kind_number.true
-      | then-row-kind_number-via-else-row-kind_number+then-row_decision-count w ↦ other_decision label size bytes (start + j) c.row_at-row.result.now c.row_at-row.ensures.value c.kind_number.result w.decision_count.result c.kind_number.ensures w.decision_count.ensures
-          w.if-row-kind_number.false w.if-row_decision-count.true
+      | then-row-kind_number-via-else-row-kind_number+then-row-decision_count w ↦ other_decision label size bytes (start + j) c.row_at-row.result.now c.row_at-row.ensures.value c.kind_number.result w.decision_count.result c.kind_number.ensures w.decision_count.ensures
+          w.if-row-kind_number.false w.if-row-decision_count.true
     ] in
     ap (λ o. unless o tt) (sym (first_found c.args.count (λ j. found (foreign label size bytes (start + j)) (Foreign (start + j))) j (Foreign (start + j)) c.loop-j-test.true c.loop-j.invariant (some_found _ _ is)))
 
@@ -53,7 +53,7 @@ loop-j-preserved g c =
     let j = c.loop-j.j in
     first_step j (λ j. found (foreign label size bytes (start + j)) (Foreign (start + j))) c.loop-j.invariant
     (none_found _ _ (of_kind label size bytes (start + j) c.row_at-row.result.now c.row_at-row.ensures.value c.kind_number.result c.decision_count.result c.kind_number.ensures c.decision_count.ensures
-    c.if-row-kind_number.false c.if-row_decision-count.false))
+    c.if-row-kind_number.false c.if-row-decision_count.false))
 
 pub returns : goal.returns
 returns g c =

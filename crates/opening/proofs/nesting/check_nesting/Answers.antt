@@ -72,7 +72,7 @@ pub returns-then-not-end_at_largest : goal.returns-then-not-end_at_largest
 returns-then-not-end_at_largest c =
     let bytes = c.args.bytes.now in
     let rows = c.args.rows in
-    let all : c.loop-row.row ≡ rows = omega (arith, c.loop-row-test.false, c.loop-row.auto.row_end, c.requires.1.0) in
+    let all : c.loop-row.row ≡ rows = omega (arith, c.loop-row-test.false, c.loop-row.auto.row-end, c.requires.1.0) in
     ended-short (rows_in bytes) rows (sym (long bytes rows c.requires.0)) c.requires.1.0 (ap (λ n. first n (nesting_at (rows_in bytes))) (sym all) ∙ c.loop-row.invariant.0) (ap (λ n. begins tops (take n (rows_in bytes))) (sym all) ∙ c.loop-row.invariant.1)
     c.ranges_at-2.result (c.ranges_at-2.ensures.value ∙ sym (ranges_are bytes (rows - 1) (omega (arith, c.requires.1.0, c.requires.0)))) (sym c.if-not-end_at_largest.ensures)
 
@@ -80,6 +80,6 @@ pub returns : goal.returns
 returns c =
     let bytes = c.args.bytes.now in
     let rows = c.args.rows in
-    let all : c.loop-row.row ≡ rows = omega (arith, c.loop-row-test.false, c.loop-row.auto.row_end, c.requires.1.0) in
+    let all : c.loop-row.row ≡ rows = omega (arith, c.loop-row-test.false, c.loop-row.auto.row-end, c.requires.1.0) in
     (ended-whole (rows_in bytes) rows (sym (long bytes rows c.requires.0)) c.requires.1.0 (ap (λ n. first n (nesting_at (rows_in bytes))) (sym all) ∙ c.loop-row.invariant.0) (ap (λ n. begins tops (take n (rows_in bytes))) (sym all) ∙ c.loop-row.invariant.1)
     c.ranges_at-2.result (c.ranges_at-2.ensures.value ∙ sym (ranges_are bytes (rows - 1) (omega (arith, c.requires.1.0, c.requires.0)))) (sym c.if-not-end_at_largest.ensures)).0

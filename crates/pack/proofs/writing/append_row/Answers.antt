@@ -16,6 +16,6 @@ loop-width-preserved c =
 
 pub returns : goal.returns
 returns c =
-    let none = either_empty_from_Zip _ _ _ refl c.in-None.ensures.steps in
+    let none = either_empty_from_Zip _ c.loop-width.width-iterator _ refl c.in-None.ensures.steps in
     extended_on c.extend_from_slice.result (vec_items c.args.out.now) (range_bytes widths (ranges c.args.row.now.region)) _ _ _
     (sym (append-nil (vec_items c.loop-width.out)) ∙ ap (λ (x : List ℕ). vec_items c.loop-width.out ++ x) (sym (range_all _ _ none)) ∙ c.loop-width.invariant.0) c.extend_from_slice.ensures.items

@@ -11,8 +11,8 @@ pub loop-number-init : goal.loop-number-init
 unfolding first_blocks
 loop-number-init c =
     let rows = c.args.rows.now in
-    let start = ap enumerate_count c.into-iter-number-iterator.ensures.into-iter-gives ∙ c.enumerate-number-items.ensures.count in
-    let chunks = ap enumerate_source c.into-iter-number-iterator.ensures.into-iter-gives ∙ c.enumerate-number-items.ensures.source in (
+    let start = ap enumerate_count c.into_iter-number-iterator.ensures.into_iter_gives ∙ c.enumerate-number-items.ensures.count in
+    let chunks = ap enumerate_source c.into_iter-number-iterator.ensures.into_iter_gives ∙ c.enumerate-number-items.ensures.source in (
       c.new-bytes.ensures.items ∙ sym (ap (first_blocks c.args.kind (view rows)) start),
       ap chunks_rest chunks ∙ c.chunks.ensures.rest ∙ sym (ap (λ n. drop (18 * n) rows) start),
       ap chunks_size chunks ∙ c.chunks.ensures.size,

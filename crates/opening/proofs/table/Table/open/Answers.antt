@@ -15,7 +15,7 @@ invariant_of-result g c =
     let clean = was_none _ _ _ c.in_ok-rows.ensures.answer in
     let rows = c.in_ok-rows.rows in
     let h = subst (λ (x : List ℕ). HoldsNested x rows) (sym c.in_ok-bytes.ensures.items) (clean_holds g.K.Kind.label g.K.Kind.size c.args.bytes.now rows clean.0 clean.1) in
-    (h.count, (h.room, (h.nested, tt)))
+    record { count = h.count; room = h.room; nested = h.nested }
 
 pub returns : goal.returns
 returns g c =
