@@ -21,4 +21,4 @@ returns-in-Ok g c =
     let few : length (view rows) ≤ most_rows = omega (arith, length-map rows plain, c.in-Ok.ensures.few, c.in-Ok.rows.ok) in
     told_reading n silent spelling (read_of (read_word n silent spelling) c.args.text.now) c.in_default.field-0 (view rows) _
     c.in_default.ensures.answer (c.in-Ok.ensures.rows ∙ ap (λ (rules : List Rule). table tops (meant n silent rules)) c.read.ensures.rules) few
-    (c.in_ok-rows_lines.ensures ∙ ap (λ (xs : List Row). rows_text spelling (view xs)) c.deref.ensures.value)
+    (c.in_ok-rows_lines-in-Ok.ensures ∙ ap (λ (xs : List Row). rows_text spelling (view xs)) c.deref.ensures.value)
