@@ -22,9 +22,9 @@ region_tells x y =
       (ap (λ (r : Region). r.source_port) e, (ap (λ (r : Region). r.destination) e, (ap (λ (r : Region). r.destination_port) e, ap (λ (r : Region). r.protocol) e))),
     ))
     (Decides-and _ _ (range_tells x.source y.source)
-      (Decides-and _ _ (range_tells x.source_port y.source_port)
-        (Decides-and _ _ (range_tells x.destination y.destination)
-          (Decides-and _ _ (range_tells x.destination_port y.destination_port) (range_tells x.protocol y.protocol)))))
+    (Decides-and _ _ (range_tells x.source_port y.source_port)
+    (Decides-and _ _ (range_tells x.destination y.destination)
+    (Decides-and _ _ (range_tells x.destination_port y.destination_port) (range_tells x.protocol y.protocol)))))
 
 row_tells : (x y : Row) → Decides ((row.ghosts).eq x y) (x ≡ y)
 row_tells x y =

@@ -5,7 +5,6 @@ use Rattle.theory.specs.Tables.{table}
 use Rattle.table.specs.Rows.{plain, view}
 use Rattle.blocks.specs.Writing.{packed}
 use Rattle.pack.proofs.Room.{too_many, few_enough, within, in_front}
-use Rattle.pack.proofs.packing.pack.Given as given
 use Rattle.pack.proofs.packing.pack.Goals as goal
 
 pub returns-then-blocks-bytes : goal.returns-then-blocks-bytes

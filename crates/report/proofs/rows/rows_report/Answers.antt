@@ -1,4 +1,4 @@
-use Rattle.std.proofs.Common.{◌≡◌, ◌≤◌, List, length, vec_items, ap, ◌∙◌, arith}
+use Rattle.std.proofs.Common.{◌≤◌, List, length, vec_items, ap, ◌∙◌, arith}
 use Rattle.std.proofs.lemmas.List.{length-map}
 use Rattle.packet.specs.Packets.{tops}
 use Rattle.decision.specs.Kinds.{read_word}

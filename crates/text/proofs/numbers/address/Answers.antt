@@ -1,5 +1,4 @@
 use Rattle.std.proofs.Common.{◌+◌, ◌-◌, ◌*◌, ◌^◌, ◌<◌, sym, ap, ◌∙◌, arith}
-use Rattle.text.specs.Pieces.{left}
 use Rattle.text.specs.Numbers.{bytes_from, address_of}
 use Rattle.text.proofs.Values.{bytes_few, bytes_more, bytes_stop, bytes_end, bytes_many, number_top, room}
 use Rattle.text.proofs.numbers.address.Goals as goal
