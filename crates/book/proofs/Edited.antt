@@ -1,14 +1,14 @@
 -- The edits of a list keep its rules forward. Assumes nothing.
 use Rattle.std.proofs.Common.{◌≡◌, ℕ, suc, Bool, true, false, cond, List, ◌∷◌, take, drop, set, sym, subst, zero-le}
-use Rattle.std.specs.List.{insert, remove, AllByRecursion as All}
+use Rattle.std.specs.List.{insert, remove, AllByRecursion}
 use Rattle.std.proofs.ByRecursion.{all_from_every, every_from_all, All-append, All-take, All-drop, All-set}
 use Rattle.book.specs.declared.rule.Rule.{Rule}
 use Rattle.book.specs.Rules.{Forward, AllForward}
 
-each : (rules : List Rule) → AllForward rules → All Forward rules
+each : (rules : List Rule) → AllForward rules → AllByRecursion Forward rules
 each rules h = all_from_every Forward rules (λ k d _ lt. h k d lt)
 
-every : (rules : List Rule) → All Forward rules → AllForward rules
+every : (rules : List Rule) → AllByRecursion Forward rules → AllForward rules
 every rules h k d lt = every_from_all Forward rules h k d zero-le lt
 
 inserted_forward : (rules : List Rule) (i : ℕ) (rule : Rule) → AllForward rules → Forward rule → AllForward (insert rules i rule)

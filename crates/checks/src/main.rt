@@ -2,22 +2,44 @@
 // nothing with the tool but its rules.
 #![tactic(auto)]
 
-mod packed;
-#[cfg(test)]
-mod tests;
-mod words;
+ghost use Rattle.std.specs.Prelude.{◌<◌};
 
-use crate::packed::{of_bytes, on_the_rig, packing};
-use crate::words::{bytes_of, hex_of, number, packet_at};
 use book::Book;
 use decision::{Kind, Marks, Verdicts};
 use findings::{Finding, Hiding, findings};
-use packet::Packet;
+use packet::{Field, Packet};
 use report::{Output, rows_report};
 use std::alloc::{AllocError, Global};
 use std::io::{BufRead, BufReader};
 use text::{Report, read};
 use winner::{WinnerFault, WinningLine, winner};
+
+// The value of a hexadecimal digit; a case has no other bytes.
+fn digit(byte: u8) -> u8
+    ensures { result < 16 }
+{
+    match byte {
+        b'0'..=b'9' => byte - b'0',
+        b'a'..=b'f' => byte - b'a' + 10,
+        _ => 0,
+    }
+}
+
+// The bytes that a case writes in hexadecimal digits; `-` stands for none.
+fn bytes_of(heap: Global, word: &str) -> Result<Vec<u8>, AllocError> {
+    let mut bytes = Vec::new(heap);
+    let mut first = None;
+    for byte in word.bytes() {
+        first = match first {
+            None => Some(digit(byte)),
+            Some(high) => {
+                bytes.push(high % 16 * 16 + digit(byte))?;
+                None
+            }
+        };
+    }
+    Ok(bytes)
+}
 
 // A fault in the form in which the program prints it, without its line feed.
 fn refused(heap: Global, report: Report) -> Result<String, AllocError> {
@@ -79,6 +101,22 @@ fn found<K: Kind>(heap: Global, text: &[u8], room: usize) -> Result<String, Allo
     Ok(lines)
 }
 
+// The bytes in hexadecimal digits.
+fn hex_of(heap: Global, bytes: &[u8]) -> Result<String, AllocError> {
+    let mut digits = String::new(heap);
+    for byte in bytes {
+        for half in [*byte / 16, *byte % 16] {
+            let digit = if half < 10 {
+                b'0' + half
+            } else {
+                b'a' + half % 16 - 10
+            };
+            digits.push(char::from(digit))?;
+        }
+    }
+    Ok(digits)
+}
+
 fn is_same(a: &[u8], b: &[u8]) -> bool {
     a == b
 }
@@ -124,6 +162,28 @@ fn won<'a, K: Kind>(
     }
 }
 
+// A number of a case; a case has no other words there.
+fn number(word: Option<&str>) -> u32 {
+    word.unwrap_or("0").parse::<u32>().unwrap_or(0)
+}
+
+// The packet that a case writes as five numbers.
+fn packet(words: &[&str]) -> Packet {
+    let mut packet = Packet {
+        source: 0,
+        source_port: 0,
+        destination: 0,
+        destination_port: 0,
+        protocol: 0,
+    };
+    for index in 0..Field::COUNT {
+        if let Some(field) = Field::at(index) {
+            packet = packet.with(field, number(words.get(4 + index).copied()));
+        }
+    }
+    packet
+}
+
 fn of_kind<K: Kind>(heap: Global, words: &[&str]) -> Result<String, AllocError> {
     let text = bytes_of(heap, words.get(2).copied().unwrap_or(""))?;
     match words.first().copied().unwrap_or("") {
@@ -132,18 +192,14 @@ fn of_kind<K: Kind>(heap: Global, words: &[&str]) -> Result<String, AllocError> 
         "findings" => found::<K>(heap, &text, number(words.get(3).copied()) as usize),
         "winner" => {
             let second = bytes_of(heap, words.get(3).copied().unwrap_or(""))?;
-            won::<K>(heap, &text, &second, packet_at(words, 4))
+            won::<K>(heap, &text, &second, packet(words))
         }
-        "pack" => packing::<K>(heap, &text, number(words.get(3).copied()) as usize),
-        call => of_bytes::<K>(heap, call, &text, packet_at(words, 3)),
+        _ => String::from_str(heap, "no such case\n"),
     }
 }
 
 fn answer(heap: Global, case: &str) -> Result<String, AllocError> {
     let words: Vec<&str> = case.split(' ').collect(heap)?;
-    if words.first().copied().unwrap_or("") == "rig" {
-        return on_the_rig(heap, &words);
-    }
     match words.get(1).copied().unwrap_or("") {
         "1" => of_kind::<Verdicts>(heap, &words),
         "2" => of_kind::<Marks>(heap, &words),

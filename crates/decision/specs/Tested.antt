@@ -1,10 +1,11 @@
 -- The laws of a kind from tests of all its decisions. Assumes nothing.
-use Rattle.std.specs.Prelude.{◌≡◌, ℕ, zero, suc, ◌<◌, Bool, true, false, not, ◌&&◌, ◌||◌, ltb, List, length, ◌==◌, nat_le, nat_lt}
+use Rattle.std.specs.Prelude.{◌≡◌, ℕ, zero, suc, ◌<◌, ◌≤◌, Bool, true, false, not, ◌&&◌, ◌||◌, ltb, ◌⊎◌, List, length, ◌==◌, nat_le, nat_lt}
 use Rattle.std.proofs.Common.{subst, inl, inr, arith}
 use Rattle.std.specs.Str.{bytes_eq}
-use Rattle.std.proofs.lemmas.Bool.{and_parts, and_from, eqb-true, leb-true, ltb-true, cases_lt}
+use mathlib.Core.Bool.{and-false}
+use Rattle.std.proofs.lemmas.Bool.{and_parts, and_from, eqb-true, leb-true, ltb-true, lt-ltb, le-ltb, cases_lt}
 use Rattle.std.proofs.lemmas.Slice.Eq.{bytes_eq-Decides}
-use Rattle.decision.specs.Kinds.{Lattice, Words, first_word}
+use Rattle.decision.specs.Kinds.{Lattice, Foreign, Words, both, known, known_below, known_or, first_word}
 use Rattle.decision.specs.Words.{words_apart}
 
 -- does the test pass at every number below n?
@@ -71,3 +72,26 @@ pub words_tested : (n silent : ℕ) (word : ℕ → List ℕ) → nat_lt silent 
 words_tested n silent word l apart first few = words_apart n silent word
     (λ a b la lb e. eqb-true a b (so_then _ _ (at_two n (λ a b. so (bytes_eq (word a) (word b)) (a == b)) apart a b la lb) ((bytes_eq-Decides (word a) (word b)).1 e)))
     (ltb-true silent n l) (at n (λ d. first_word (word d)) first) (λ d ld. leb-true _ _ (at n (λ d. nat_le (length (word d)) 64) few d ld))
+
+-- of numbers of which one is no decision, not both are decisions
+not_both : (count a b : ℕ) → (count ≤ a) ⊎ (count ≤ b) → both count a b ≡ false
+not_both count a b h = elim h [
+  | inl l ↦ rw (le-ltb a count l)
+  | inr l ↦ rw (le-ltb b count l, and-false)
+]
+
+-- what asks first whether both numbers are decisions turns all others away
+pub foreign_known : (count silent : ℕ) (under : ℕ → ℕ → Bool) (lower upper : ℕ → ℕ → ℕ)
+    → Foreign count silent (known_below count under) (known_or count silent lower) (known_or count silent upper)
+foreign_known count silent under lower upper = record {
+  not_below = λ a b h. rw (not_both count a b h);
+  silent_meet = λ a b h. rw (not_both count a b h);
+  silent_join = λ a b h. rw (not_both count a b h);
+}
+
+-- whatever the number, what counts for it is a decision
+pub known_of_kind : (count silent d : ℕ) → silent < count → known count silent d < count
+known_of_kind count silent d h = elim (cases_lt d count) [
+  | inl l ↦ rw (lt-ltb d count l) l
+  | inr l ↦ rw (le-ltb d count l) h
+]

@@ -66,6 +66,7 @@ pub trait Kind {
     }
 
     // The decision other than the silent one that has this word.
+    #[tactic(auto, using(crate::specs::Words::read_here))]
     fn read(word: &[u8]) -> Option<u8>
         ensures { result ≡ read_word size silence spelling word.now }
     {

@@ -2,8 +2,8 @@
 ghost use Rattle.decision.specs.Kinds.{known_below, known_or};
 ghost use Rattle.decision.specs.Marks.{contained, common, either, mark_word};
 ghost use Rattle.std.specs.Prelude.{refl};
-ghost use Rattle.decision.specs.Tested.{lattice_tested, words_tested};
-ghost use Rattle.std.proofs.Common.{rules};
+ghost use Rattle.decision.specs.Tested.{foreign_known, lattice_tested, words_tested};
+ghost use Rattle.std.proofs.Common.{lit<, lit≤};
 
 use crate::kind::Kind;
 
@@ -30,11 +30,11 @@ impl Kind for Marks {
 
     ghost spelling = { mark_word };
 
-    ghost bounds = { Prim.search rules };
+    ghost bounds = { record { numbered = lit≤ tt; byte = lit≤ tt; several = lit≤ tt; few = lit≤ tt; of_kind = lit< tt } };
 
     ghost lattice = { lattice_tested _ _ _ _ refl refl refl refl refl refl refl refl refl refl refl };
 
-    ghost foreign = { Prim.search rules };
+    ghost foreign = { foreign_known _ _ _ _ _ };
 
     ghost words = { words_tested _ _ _ refl refl refl refl };
 

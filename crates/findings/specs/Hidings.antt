@@ -1,6 +1,6 @@
 -- The pairs of rules that hide each other, in order. Cited by src/finding.rt and src/listing.rt. Assumes nothing.
 use Rattle.std.specs.Prelude.{◌≡◌, ℕ, suc, ◌<◌, Bool, cond, not, ◌&&◌, ◌≢◌, List, [], ◌∷◌, ◌++◌, length, drop, Some, None, Ok, Err, Option, Result, ◌==◌, nat_lt}
-use Rattle.std.specs.List.{AllByRecursion as All}
+use Rattle.std.specs.List.{AllByRecursion}
 use Rattle.packet.specs.Regions.{ranges}
 use Rattle.book.specs.declared.rule.Rule.{Rule}
 use Rattle.findings.specs.declared.finding.Hiding.{Hiding}
@@ -69,7 +69,7 @@ findings_of rules = from_rule 0 rules
 
 -- of a rule and each of some later ones the tests find the first that applies
 abbrev pub FaithfulWith : Rule → List Rule → Type 0
-FaithfulWith a rules = All (λ b. First (hiding_of a b) a b) rules
+FaithfulWith a rules = AllByRecursion (λ b. First (hiding_of a b) a b) rules
 
 -- of each rule and each rule behind it the tests find the first that applies
 abbrev pub Faithful : List Rule → Type 0

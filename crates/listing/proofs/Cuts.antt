@@ -1,12 +1,12 @@
 -- A text that is joined with a byte between its parts, cut at that byte. Assumes nothing.
 use Rattle.std.proofs.Common.{◌≡◌, ℕ, ◌<◌, Bool, true, false, cond, eqb, List, [], ◌∷◌, ◌++◌, length, refl, ap, ◌∙◌, arith}
-use Rattle.std.specs.List.{AllByRecursion as All}
+use Rattle.std.specs.List.{AllByRecursion}
 use Rattle.std.proofs.lemmas.Bool.{cond-true, cond-false, eq-eqb, ne_eqb}
 use Rattle.text.specs.Pieces.{pieces, longer}
 
 -- no byte of the text is the separator
 abbrev pub Without : ℕ → List ℕ → Type 0
-Without sep = All (λ b. b ≡ sep → ⊥)
+Without sep = AllByRecursion (λ b. b ≡ sep → ⊥)
 
 module _ (sep : ℕ) where
   -- a text has a piece

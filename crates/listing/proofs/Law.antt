@@ -1,6 +1,6 @@
 -- A text of rules reads back. Assumes nothing.
 use Rattle.std.proofs.Common.{◌≡◌, ℕ, ◌+◌, ◌*◌, ◌<◌, ◌≤◌, true, not, eqb, ltb, leb, List, [], ◌∷◌, ◌++◌, length, Some, Ok, Option, sym, refl, ap, ◌∙◌, append_assoc, append-nil, arith}
-use Rattle.std.specs.List.{AllByRecursion as All}
+use Rattle.std.specs.List.{AllByRecursion}
 use Rattle.std.proofs.ByRecursion.{All-weaker, All-get_or, all_from_every}
 use Rattle.std.proofs.lemmas.List.{length-append}
 use Rattle.std.proofs.lemmas.Bool.{cond-false, and_parts, le-ltb, lt-leb, ltb-true, not-true, eqb-false}
@@ -26,7 +26,7 @@ pub record Proper (rule : Rule) : Type 0 where
   pub fit : Fit tops (ranges rule.region)
   pub forward : Forward rule
 
-pub all_proper : (rules : List Rule) → All (λ rule. Fit tops (ranges rule.region)) rules → AllForward rules → All Proper rules
+pub all_proper : (rules : List Rule) → AllByRecursion (λ rule. Fit tops (ranges rule.region)) rules → AllForward rules → AllByRecursion Proper rules
 all_proper rules fit forward = all_from_every Proper rules (λ k d low within. record { fit = All-get_or _ rules k d within fit; forward = forward k d within })
 
 module _ (count silent : ℕ) (spelling : ℕ → List ℕ) (words : Words count silent spelling) where
@@ -65,7 +65,7 @@ module _ (count silent : ℕ) (spelling : ℕ → List ℕ) (words : Words count
   unfolding pieces lines_from letters_from
   last_line number done = refl
 
-  lines_back : (rules done : List Rule) (number : ℕ) → length done + length rules ≤ 64 → All Proper rules → all_speak count silent rules ≡ true
+  lines_back : (rules done : List Rule) (number : ℕ) → length done + length rules ≤ 64 → AllByRecursion Proper rules → all_speak count silent rules ≡ true
       → lines_from read number (pieces 10 (rules_text spelling rules)) done ≡ ended (Ok tt) (done ++ rules)
   lines_back [] done number few proper speak = last_line number done ∙ ap (ended (Ok tt)) (sym (append-nil done))
   lines_back (rule ∷ rules) done number few proper speak =
@@ -78,13 +78,13 @@ module _ (count silent : ℕ) (spelling : ℕ → List ℕ) (words : Words count
       ∙ lines_back rules (done ++ (rule ∷ [])) (number + 1) fewer proper.1 says.1
       ∙ ap (ended (Ok tt)) (append_assoc done (rule ∷ []) rules)
 
-  text_short : (rules : List Rule) → All Proper rules → all_speak count silent rules ≡ true → length (rules_text spelling rules) ≤ 225 * length rules
+  text_short : (rules : List Rule) → AllByRecursion Proper rules → all_speak count silent rules ≡ true → length (rules_text spelling rules) ≤ 225 * length rules
   text_short [] proper speak = omega arith
   text_short (rule ∷ rules) proper speak =
       let says = and_parts (speaks count silent rule.decision) (all_speak count silent rules) speak in
       omega (arith, length-append (line rule) (10 ∷ rules_text spelling rules), short rule proper.0 says.0, text_short rules proper.1 says.1)
 
-  pub reads_back : (rules : List Rule) → length rules ≤ 64 → All Proper rules → ReadsBack count silent spelling rules (rules_text spelling rules)
+  pub reads_back : (rules : List Rule) → length rules ≤ 64 → AllByRecursion Proper rules → ReadsBack count silent spelling rules (rules_text spelling rules)
   reads_back rules few proper speak =
       cond-false (ltb 16384 (length (rules_text spelling rules))) _ _ (le-ltb 16384 (length (rules_text spelling rules)) (omega (arith, text_short rules proper speak)))
       ∙ lines_back rules [] 1 (omega arith) proper speak

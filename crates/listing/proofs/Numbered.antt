@@ -1,7 +1,7 @@
 -- Numbers and addresses, written and read. Assumes nothing.
 use Rattle.std.proofs.Common.{◌≡◌, ℕ, zero, suc, ◌+◌, ◌-◌, ◌*◌, ◌/◌, ◌%◌, ◌^◌, ◌<◌, ◌≤◌, true, leb, List, [], ◌∷◌, ◌++◌, length, get_or, Some, None, decimal, Option, refl, ap, ◌∙◌, inl, inr, arith}
 use native.Mathlib.Nat.{pow-succ'}
-use Rattle.std.specs.List.{AllByRecursion as All}
+use Rattle.std.specs.List.{AllByRecursion}
 use Rattle.std.proofs.lemmas.Fmt.{decimal_by_steps, decimal_digit, decimal_nonempty, first_decimal, length-decimal-le}
 use Rattle.std.proofs.ByRecursion.{All-append, All-weaker}
 use Rattle.std.proofs.lemmas.List.{length-append}
@@ -14,7 +14,7 @@ use Rattle.listing.proofs.Cuts.{pieces_joined, pieces_one}
 
 -- each byte lies between two
 abbrev pub Between : ℕ → ℕ → List ℕ → Type 0
-Between low high = All (λ b. (low ≤ b) × (b ≤ high))
+Between low high = AllByRecursion (λ b. (low ≤ b) × (b ≤ high))
 
 pub wider : (low high low' high' : ℕ) (bs : List ℕ) → low' ≤ low → high ≤ high' → Between low high bs → Between low' high' bs
 wider low high low' high' bs l h = All-weaker _ _ (λ b p. (omega (arith, p.0), omega (arith, p.1))) bs

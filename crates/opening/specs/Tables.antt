@@ -1,7 +1,7 @@
 -- What an opened table decides, and what opening answers. Assumes nothing.
-use Rattle.std.specs.Prelude.{◌≡◌, ℕ, ◌<◌, ◌≤◌, true, cond, List, length, Some, None, Err, Result}
-use Rattle.std.proofs.Common.{sym, ap, ◌∙◌, subst, inl, inr, arith}
-use Rattle.std.proofs.lemmas.Bool.{cases_lt, lt-ltb, le-ltb, cond-true}
+use Rattle.std.specs.Prelude.{◌≡◌, ℕ, ◌<◌, ◌≤◌, true, List, length, Some, None, Err, Result}
+use Rattle.std.proofs.Common.{sym, ap, ◌∙◌, subst, arith}
+use Rattle.std.proofs.lemmas.Bool.{lt-ltb, cond-true}
 use Rattle.packet.specs.Packets.{tops, Within}
 use Rattle.policy.specs.Edges.{Edge, Alike}
 use Rattle.decision.specs.Kinds.{known}
@@ -23,13 +23,6 @@ use Rattle.opening.specs.Opened.{Decided, meant, range_end, Opens, DecidesAsPack
 use Rattle.opening.specs.Searching.{HoldsNested}
 use Rattle.opening.specs.Firsts.{none_some}
 use Rattle.opening.specs.Undone.{packs_back, opens_packed, clean_nested, clean_room, clean_decided}
-
--- a number that is known to the kind, or the silent one, is below the count
-pub known_below : (size silent d : ℕ) → silent < size → known size silent d < size
-known_below size silent d h = elim (cases_lt d size) [
-  | inl l ↦ subst (λ t. cond t d silent < size) (sym (lt-ltb d size l)) l
-  | inr l ↦ subst (λ t. cond t d silent < size) (sym (le-ltb d size l)) h
-]
 
 -- the end of the range that holds a packet is an edge
 pub range_end_edge : (size silent : ℕ) (bytes : List ℕ) → passes tops (rows_in bytes) ≡ true → (f : ℕ) (p : List ℕ) (r : ℕ) → f < length tops → Within tops p → r ≡ range_end bytes f p → Edge (meant size silent bytes) p f r

@@ -1,5 +1,5 @@
 -- Edges of what is decided packet by packet. Assumes nothing.
-use Rattle.std.specs.Prelude.{◌≡◌, ℕ, suc, ◌<◌, ◌≤◌, Bool, ◌&&◌, List, ◌∷◌, ◌++◌, length, take, drop, slice_index_or}
+use Rattle.std.specs.Prelude.{◌≡◌, ℕ, suc, ◌<◌, ◌≤◌, Bool, true, false, cond, ◌&&◌, ◌==◌, List, ◌∷◌, ◌++◌, length, take, drop, slice_index_or}
 use Rattle.std.proofs.Common.{sym, ap, ◌∙◌, arith}
 use Rattle.packet.specs.declared.range.Range.{Range}
 use Rattle.packet.specs.Packets.{Within, tops}
@@ -7,7 +7,7 @@ use Rattle.packet.specs.Regions.{holds, range_at}
 use Rattle.packet.proofs.Values.{long, at_most}
 use Rattle.packet.proofs.Holding.{holds_at, run_alike, run_from, run_most}
 use Rattle.policy.specs.Edges.{Edge, Alike}
-use Rattle.policy.specs.Layers.{Lower, own_end}
+use Rattle.policy.specs.Layers.{over, Lower, own_end}
 
 -- where each of two answers is an edge of its meaning, the lower is an edge of whatever is decided from both
 pub edge_of_both : {A B D : Type 0} (h : A → B → D) (m : List ℕ → A) (n : List ℕ → B) (p : List ℕ) (f r : ℕ) (P Q : ℕ → Type 0)
@@ -39,3 +39,7 @@ edge_of_region rs p f e few w =
           ∙ ap (λ (b : Bool). holds (take f rs) (take f p) && (b && holds (drop (suc f) rs) rest)) (run_alike top r v x lx xr ∙ sym (run_alike top r v y ly yr))
           ∙ sym (holds_at rs p f y rest within enough);
     }
+
+-- where both are decisions, the first over the second is one
+pub over_of_kind : (count silent a b : ℕ) → a < count → b < count → over silent a b < count
+over_of_kind count silent a b l r = elim (a == silent) as (λ x. cond x b a < count) [ true ↦ r | false ↦ l ]

@@ -1,7 +1,6 @@
 // A layer that decides by the meet of two sources.
 ghost use Rattle.policy.specs.Layers.{Lower};
 ghost use Rattle.policy.specs.Pointwise.{edge_of_both};
-ghost use Rattle.std.proofs.Common.{rules};
 
 use crate::source::{Source, nearer_edge};
 use decision::Kind;
@@ -19,7 +18,7 @@ impl<K: Kind, A: Source<K>, B: Source<K>> Source<K> for Meet<A, B> {
 
     ghost stops = { λ s f p r. Lower (A.Source.stops s.first f p) (B.Source.stops s.second f p) r };
 
-    ghost decided = { Prim.search rules };
+    ghost decided = { λ s p w. K.Kind.lattice.meet_of_kind _ _ (A.Source.decided s.first p w) (B.Source.decided s.second p w) };
 
     ghost sound = { λ s f p r few w l. edge_of_both K.Kind.lower _ _ p f r _ _ (λ a. A.Source.sound _ _ _ _ few w) (λ b. B.Source.sound _ _ _ _ few w) l };
 

@@ -1,7 +1,6 @@
 // A layer that puts one source over another.
 ghost use Rattle.policy.specs.Layers.{over, Lower};
-ghost use Rattle.policy.specs.Pointwise.{edge_of_both};
-ghost use Rattle.std.proofs.Common.{rules};
+ghost use Rattle.policy.specs.Pointwise.{edge_of_both, over_of_kind};
 
 use crate::source::{Source, nearer_edge};
 use decision::Kind;
@@ -19,7 +18,7 @@ impl<K: Kind, A: Source<K>, B: Source<K>> Source<K> for Over<A, B> {
 
     ghost stops = { λ s f p r. Lower (A.Source.stops s.first f p) (B.Source.stops s.second f p) r };
 
-    ghost decided = { Prim.search rules };
+    ghost decided = { λ s p w. over_of_kind K.Kind.size K.Kind.silence _ _ (A.Source.decided s.first p w) (B.Source.decided s.second p w) };
 
     ghost sound = { λ s f p r few w l. edge_of_both (over K.Kind.silence) _ _ p f r _ _ (λ a. A.Source.sound _ _ _ _ few w) (λ b. B.Source.sound _ _ _ _ few w) l };
 

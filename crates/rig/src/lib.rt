@@ -1,7 +1,7 @@
 // The call for C programs: it decides a packet on packed bytes.
 //
-// `kusucopper_decide` is built into a static library, and rig/kusucopper.h declares it. It opens the bytes with the kind of verdicts,
-// for one question, and allocates nothing. Its contract says which number comes back, for any bytes. Rests on opening.
+// `kusucopper_decide` opens the bytes with the kind of verdicts, for one question, and allocates nothing. Its contract says which number
+// comes back, for any bytes. Crate rig_c is the static library that C programs link. Rests on opening.
 #![tactic(auto)]
 
 ghost use Rattle.std.specs.Prelude.{◌≡◌, [], ◌∷◌};
@@ -12,8 +12,7 @@ use opening::decide_packed;
 use packet::Packet;
 
 // The decision of the packet, or 100 plus the number of the refusal to open the bytes.
-#[unsafe(no_mangle)]
-pub extern "C" fn kusucopper_decide(
+pub fn kusucopper_decide(
     bytes: &[u8],
     source: u32,
     source_port: u16,

@@ -1,6 +1,6 @@
 -- The rows of a meaning's table have the meaning's decisions. Assumes nothing.
 use Rattle.std.proofs.Common.{ℕ, suc, ◌<◌, List, [], ◌∷◌, length, get_or, arith}
-use Rattle.std.specs.List.{AllByRecursion as All}
+use Rattle.std.specs.List.{AllByRecursion}
 use Rattle.std.proofs.ByRecursion.{All-get_or, All-append, All-map}
 use Rattle.packet.specs.Packets.{Within}
 use Rattle.theory.specs.Tables.{Row, Group, spread, flat, Each, groups, table, sub_table}
@@ -8,7 +8,7 @@ use Rattle.theory.proofs.Groups.{groups_each}
 
 -- P holds of each row's decision
 abbrev Decisions : (ℕ → Type 0) → List Row → Type 0
-Decisions P rows = All (λ (r : Row). P r.decision) rows
+Decisions P rows = AllByRecursion (λ (r : Row). P r.decision) rows
 
 decisions_flat : (P : ℕ → Type 0) (gs : List Group) → Each (λ g. Decisions P g.rows) gs → Decisions P (flat gs)
 decisions_flat P [] e = tt

@@ -6,7 +6,7 @@ ghost use Rattle.book.specs.Books.{rules_of};
 ghost use Rattle.book.specs.Deciding.{first, meant};
 ghost use Rattle.book.specs.Reach.{whole, all_whole, Stops};
 ghost use Rattle.book.specs.Reaches.{stops_edge};
-ghost use Rattle.std.proofs.Common.{rules, arith};
+ghost use Rattle.decision.specs.Tested.{known_of_kind};
 
 use crate::book::Book;
 use crate::rule::Rule;
@@ -19,7 +19,7 @@ impl<K: Kind> Source<K> for Book<K> {
 
     ghost stops = { λ book f p r. Stops (rules_of book) f p r };
 
-    ghost decided = { first_of (Prim.search rules, Prim.grind (arith, Self.row.coded.inj)) };
+    ghost decided = { λ s p w. known_of_kind K.Kind.size K.Kind.silence _ K.Kind.bounds.of_kind };
 
     ghost sound = { λ s f p r few w h. stops_edge K.Kind.size K.Kind.silence (rules_of s) f p r few w h };
 

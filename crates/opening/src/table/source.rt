@@ -1,7 +1,8 @@
 // A table as a source.
 ghost use Rattle.std.specs.Prelude.{◌≡◌};
 ghost use Rattle.opening.specs.Opened.{bytes_of, meant, range_end};
-ghost use Rattle.opening.specs.Tables.{known_below, range_end_edge};
+ghost use Rattle.opening.specs.Tables.{range_end_edge};
+ghost use Rattle.decision.specs.Tested.{known_of_kind};
 
 use crate::search::{row_decision, row_end};
 use crate::table::Table;
@@ -14,7 +15,7 @@ impl<K: Kind> Source<K> for Table<K> {
 
     ghost stops = { λ table f p r. r ≡ range_end (bytes_of table) f p };
 
-    ghost decided = { λ s p w. known_below K.Kind.size K.Kind.silence _ K.Kind.bounds.of_kind };
+    ghost decided = { λ s p w. known_of_kind K.Kind.size K.Kind.silence _ K.Kind.bounds.of_kind };
 
     ghost sound = { λ s f p r few w h. range_end_edge K.Kind.size K.Kind.silence (bytes_of s) s.nested f p r few w h };
 

@@ -1,6 +1,6 @@
 use Rattle.std.proofs.Common.{◌≤◌, ◌++◌, length, string_bytes, ap, ◌∙◌, subst, arith}
 use lib.Utf8.{encode}
-use Rattle.std.specs.List.{AllByRecursion as All}
+use Rattle.std.specs.List.{AllByRecursion}
 use Rattle.std.proofs.ByRecursion.{All-more}
 use Rattle.std.proofs.lemmas.List.{take_all}
 use Rattle.packet.specs.Packets.{tops}
@@ -21,8 +21,8 @@ loop-rule-preserved g c = (
 pub returns : goal.returns
 returns g c =
     let book = c.args.book.now in
-    let fit : All (λ rule. Fit tops (ranges rule.region)) (rules_of book) =
-    subst (All (λ rule. Fit tops (ranges rule.region))) (take_all c.loop-rule.rule-index c.rules-rules.result.now c.loop-rule-test.false ∙ c.rules-rules.ensures) c.loop-rule.invariant.1 in
+    let fit : AllByRecursion (λ rule. Fit tops (ranges rule.region)) (rules_of book) =
+    subst (AllByRecursion (λ rule. Fit tops (ranges rule.region))) (take_all c.loop-rule.rule-index c.rules-rules.result.now c.loop-rule-test.false ∙ c.rules-rules.ensures) c.loop-rule.invariant.1 in
     let few : length (rules_of book) ≤ 64 = omega (arith, book.few, book.rules.ok) in
     record {
       bytes = listed_all g.K.Kind.spelling c.rules-rules.result.now _ _ _ c.loop-rule-test.false c.loop-rule.invariant.0 ∙ ap (λ rules. string_bytes c.args.out.now ++ rules_text g.K.Kind.spelling rules) c.rules-rules.ensures;

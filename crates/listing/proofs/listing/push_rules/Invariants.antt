@@ -1,5 +1,5 @@
 use Rattle.std.proofs.Common.{◌≡◌, ◌++◌, take, drop, string_bytes}
-use Rattle.std.specs.List.{AllByRecursion as All}
+use Rattle.std.specs.List.{AllByRecursion}
 use Rattle.packet.specs.Packets.{tops}
 use Rattle.packet.specs.Regions.{ranges, Fit}
 use Rattle.listing.specs.Listings.{rules_text}
@@ -9,4 +9,4 @@ use Rattle.listing.proofs.listing.push_rules.Given as goal
 abbrev pub invariant-loop-rule : goal.invariant-loop-rule
 invariant-loop-rule g l =
     (string_bytes l.out ++ rules_text g.K.Kind.spelling (drop l.rule-index l.rules) ≡ string_bytes l.initial.out ++ rules_text g.K.Kind.spelling l.rules)
-    × All (λ rule. Fit tops (ranges rule.region)) (take l.rule-index l.rules)
+    × AllByRecursion (λ rule. Fit tops (ranges rule.region)) (take l.rule-index l.rules)

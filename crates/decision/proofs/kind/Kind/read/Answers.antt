@@ -1,18 +1,12 @@
 use Rattle.std.proofs.Common.{sym, ap, ◌∙◌}
 use Rattle.std.specs.Str.{bytes_eq}
 use Rattle.decision.specs.Kinds.{read_word}
-use Rattle.decision.specs.Words.{read_here, read_silent, read_other, read_end}
+use Rattle.decision.specs.Words.{read_silent, read_other, read_end}
 use Rattle.decision.proofs.kind.Kind.read.Goals as goal
 use Rattle.decision.proofs.kind.Kind.read.Goals.{else-decision-silent_decision-via-then-decision-silent_decision+else-is_same, else-decision-silent_decision-via-else-decision-silent_decision}
 
 pub loop-decision-init : goal.loop-decision-init
 loop-decision-init g c = ap (λ n. read_word n g.Self.Kind.silence g.Self.Kind.spelling c.args.word.now) (sym c.decision_count-decision.ensures)
-
-pub returns-then-is_same : goal.returns-then-is_same
-returns-then-is_same g c =
-    read_here _ _ _ _ c.loop-decision-test.true (λ e. c.if-decision-silent_decision.true (e ∙ sym c.silent_decision.ensures))
-    (c.if-is_same.ensures ∙ ap (λ t. bytes_eq t c.args.word.now) c.word.ensures)
-    ∙ sym c.loop-decision.invariant
 
 pub loop-decision-preserved : goal.loop-decision-preserved
 loop-decision-preserved g c =
