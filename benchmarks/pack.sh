@@ -5,15 +5,15 @@
 #     benchmarks/pack.sh [TURNS] [SEEDS]
 #
 # A line for each list: its rows, which both must agree on, the mean time of each over so many turns, and the ratio of the two. The
-# status is 1 if they do not agree. PROVED names another program in place of target/bin/speed, which is then not built.
+# status is 1 if they do not agree. PROVED names another program in place of crates/speed/out/speed, which is then not built.
 set -eu
 cd "$(dirname "$0")/.."
 turns=${1:-50}
 seeds=${2:-3}
 if [ -z "${PROVED:-}" ]; then
-    log=$(rt check speed 2>&1) || { printf '%s\n' "$log" | tail -n 20 >&2; exit 1; }
+    log=$(cd crates/speed && rt run 2>&1 < /dev/null) || { printf '%s\n' "$log" | tail -n 20 >&2; exit 1; }
 fi
-proved=${PROVED:-target/bin/speed}
+proved=${PROVED:-crates/speed/out/speed}
 cargo build --release --offline --quiet --manifest-path outside/Cargo.toml
 outside=outside/target/release/outside
 text=$(mktemp)

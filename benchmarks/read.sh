@@ -4,7 +4,7 @@
 set -eu
 cd "$(dirname "$0")/.."
 turns=${1:-2000}
-rt check speed > /dev/null
+log=$(cd crates/speed && rt run 2>&1 < /dev/null) || { printf '%s\n' "$log" | tail -n 20 >&2; exit 1; }
 cargo build --release --offline --quiet --manifest-path outside/Cargo.toml
 text=$(mktemp)
 trap 'rm -f "$text"' EXIT
@@ -13,5 +13,5 @@ for i in $(seq 0 63); do
 done > "$text"
 printf '#%0.s' 1 >> "$text"
 head -c $((16384 - $(wc -c < "$text"))) /dev/zero | tr '\0' 'x' >> "$text"
-target/bin/speed read "$turns" < "$text"
+crates/speed/out/speed read "$turns" < "$text"
 outside/target/release/outside time "$turns" < "$text"

@@ -11,10 +11,10 @@ cd "$(dirname "$0")/.."
 seed=${1:-1}
 tables=${2:-20000}
 if [ -z "${PROGRAM:-}" ]; then
-    log=$(rt check checks 2>&1) || { printf '%s\n' "$log" | tail -n 20 >&2; exit 1; }
+    log=$(cd crates/packed_checks && rt run 2>&1 < /dev/null) || { printf '%s\n' "$log" | tail -n 20 >&2; exit 1; }
 fi
 if [ -z "${RIG:-}" ]; then
     rig/build.sh > /dev/null
 fi
 cargo build --release --offline --quiet --manifest-path outside/Cargo.toml
-exec outside/target/release/outside agree "$seed" "$tables" "${PROGRAM:-target/bin/checks}" "${RIG:-rig/build/answer}"
+exec outside/target/release/outside agree "$seed" "$tables" "${PROGRAM:-crates/packed_checks/out/packed_checks}" "${RIG:-rig/build/answer}"

@@ -1,6 +1,6 @@
 /* What a bench rig needs of a packed table: one call, which decides a packet.
  *
- * The code behind it is written in Rattle and proved, in the crate rig; `rt staticlib rig` makes the library. What a packed table
+ * The code behind it is written in Rattle and proved, in the crates rig and rig_c; rig/build.sh makes the library. What a packed table
  * is stands in docs/RULES.md, under "Packed bytes".
  */
 #ifndef KUSUCOPPER_H

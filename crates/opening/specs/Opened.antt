@@ -1,5 +1,5 @@
--- What opening packed bytes answers, and what an opened table decides. Cited by src/table/opened.rt and src/table/source.rt. Assumes
--- nothing.
+-- What opening packed bytes answers, and what an opened table decides. Cited by src/packed_table/opened.rt and
+-- src/packed_table/source.rt. Assumes nothing.
 use Rattle.std.specs.Prelude.{◌≡◌, ℕ, ◌<◌, ◌≤◌, List, length, Some, None, Ok, Err, vec_items, Result}
 use Rattle.packet.specs.Packets.{tops, Within}
 use Rattle.packet.specs.Regions.{range_at}
@@ -11,7 +11,7 @@ use Rattle.blocks.specs.Writing.{packed}
 use Rattle.blocks.specs.Reading.{rows_in}
 use Rattle.damage.specs.declared.refusal.OpenRefusal.{OpenRefusal}
 use Rattle.damage.specs.declared.refusal.OpenRefusal.TheVariants.{Damaged, Memory}
-use Rattle.opening.specs.declared.table.Table.{Table}
+use Rattle.opening.specs.declared.packed_table.Table.{Table}
 use Rattle.opening.specs.Damages.{damage_of}
 
 -- the bytes of a table

@@ -17,7 +17,7 @@ use Rattle.blocks.specs.Reading.{row_count, rows_in}
 use Rattle.damage.specs.declared.damage.Damage.{Damage}
 use Rattle.damage.specs.declared.refusal.OpenRefusal.{OpenRefusal}
 use Rattle.damage.specs.declared.refusal.OpenRefusal.TheVariants.{Damaged}
-use Rattle.opening.specs.declared.table.Table.{Table}
+use Rattle.opening.specs.declared.packed_table.Table.{Table}
 use Rattle.opening.specs.Damages.{damage_of}
 use Rattle.opening.specs.Opened.{Decided, meant, range_end, Opens, DecidesAsPacked, PacksToItself}
 use Rattle.opening.specs.Searching.{HoldsNested}

@@ -10,9 +10,9 @@ mod alike;
 mod framing;
 pub mod inspection;
 mod nesting;
+pub mod packed_table;
 mod reading;
 mod search;
-pub mod table;
 
 pub use inspection::{decide_packed, inspect};
-pub use table::Table;
+pub use packed_table::Table;

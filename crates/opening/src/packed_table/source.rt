@@ -4,8 +4,8 @@ ghost use Rattle.opening.specs.Opened.{bytes_of, meant, range_end};
 ghost use Rattle.opening.specs.Tables.{range_end_edge};
 ghost use Rattle.decision.specs.Tested.{known_of_kind};
 
+use crate::packed_table::Table;
 use crate::search::{row_decision, row_end};
-use crate::table::Table;
 use decision::Kind;
 use packet::{Field, Packet};
 use policy::Source;

@@ -2,7 +2,7 @@ use Rattle.std.proofs.Common.{ℕ, List, sym, subst, arith}
 use Rattle.opening.specs.Searching.{HoldsNested}
 use Rattle.opening.proofs.Inspected.{was_damage, was_none, same_error}
 use Rattle.opening.specs.Tables.{clean_holds, told_damaged, told_opened}
-use Rattle.opening.proofs.table.Table.open.Goals as goal
+use Rattle.opening.proofs.packed_table.Table.open.Goals as goal
 
 pub returns-in_err-rows : goal.returns-in_err-rows
 returns-in_err-rows g c =

@@ -4,7 +4,7 @@ ghost use Rattle.blocks.specs.Reading.{row_count};
 ghost use Rattle.opening.specs.Opened.{bytes_of, Opens, DecidesAsPacked, PacksToItself};
 
 use crate::inspection::inspect;
-use crate::table::Table;
+use crate::packed_table::Table;
 use damage::OpenRefusal;
 use decision::Kind;
 use std::alloc::Global;
