@@ -1,8 +1,8 @@
 -- The plain list: a list of rules with four operations, each of which gives an answer and the rules afterwards. Cited by
 -- src/book/edits.rt, whose calls answer and leave the same. Assumes nothing.
 --
--- An operation's checks are read from the top: `cond test this that` is this where the test holds, else that. The tests `leb` and
--- `ltb` say at most and below. Positions count from 0. A kind is given by its count of decisions and its silent decision.
+-- An operation's checks are read from the top: `cond test this that` is this where the test holds, else that. The tests `nat_le`
+-- and `nat_lt` say at most and below. Positions count from 0. A kind is given by its count of decisions and its silent decision.
 use Rattle.std.specs.Prelude.{ℕ, suc, Bool, cond, not, ◌&&◌, ◌||◌, List, ◌∷◌, ◌++◌, length, take, drop, Ok, Err, Result, ◌==◌, nat_le, nat_lt, slice_index_or, slice_set}
 use Rattle.packet.specs.declared.range.Range.{Range}
 use Rattle.packet.specs.Regions.{ranges, any_reversed}

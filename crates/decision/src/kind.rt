@@ -66,7 +66,7 @@ pub trait Kind {
     }
 
     // The decision other than the silent one that has this word.
-    #[tactic(auto, using(crate::specs::Words::read_here))]
+    #[tactic(auto, using(crate::specs::Words::read_here, crate::specs::Words::read_other, crate::specs::Words::read_silent, crate::specs::Words::read_end))]
     fn read(word: &[u8]) -> Option<u8>
         ensures { result ≡ read_word size silence spelling word.now }
     {

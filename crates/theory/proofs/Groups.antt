@@ -25,7 +25,7 @@ unfolding groups
 groups_upto zero f = refl
 groups_upto (suc n) f = join_upto n n (f n) (groups n f) (groups_upto n f) (omega arith)
 
--- what holds of each sub_table holds of each group's rows
+-- what holds of each sub-table holds of each group's rows
 join_each : (P : List Row → Type 0) (low high : ℕ) (t : List Row) (gs : List Group) → P t → Each (λ g. P g.rows) gs → Each (λ g. P g.rows) (join low high t gs)
 join_each P low high t [] p e = (p, tt)
 join_each P low high t (g ∷ gs) p e = joined (Each (λ g. P g.rows)) low high t g gs (λ _. (p, e.1)) (λ _. (p, e))
@@ -61,7 +61,7 @@ unfolding groups
 groups_ext f f' zero h = refl
 groups_ext f f' (suc n) h = rw (h n (omega arith), groups_ext f f' n (λ v l. h v (omega arith)))
 
--- one value more, with the same sub_table, widens the last group
+-- one value more, with the same sub-table, widens the last group
 join_again : (low high : ℕ) (t : List Row) (gs : List Group) → join (suc high) (suc high) t (join low high t gs) ≡ join low (suc high) t gs
 join_again low high t [] = rw (rows_same t)
 join_again low high t (g ∷ gs) = elim (same_tells g.rows t) [
@@ -69,7 +69,7 @@ join_again low high t (g ∷ gs) = elim (same_tells g.rows t) [
   | inr h ↦ rw (h.0, rows_same t)
 ]
 
--- a run of values with one sub_table is joined all at once
+-- a run of values with one sub-table is joined all at once
 pub groups_run : (f : ℕ → List Row) (t : List Row) (low high : ℕ) → low ≤ high → ((v : ℕ) → low ≤ v → v ≤ high → f v ≡ t) → groups (suc high) f ≡ join low high t (groups low f)
 unfolding groups
 groups_run f t low high h same = le_ind (λ k. ((v : ℕ) → low ≤ v → v ≤ k → f v ≡ t) → groups (suc k) f ≡ join low k t (groups low f))
@@ -89,7 +89,7 @@ join_least low high t (g ∷ gs) = joined (λ x. (length (flat (g ∷ gs)) ≤ l
     (λ e. omega (arith, length-flat g gs, length-flat (record { low = g.low; high = high; rows = t }) gs, ap length e))
     (λ _. omega (arith, length-flat (record { low = low; high = high; rows = t }) (g ∷ gs)))
 
--- more values never make fewer rows, and each value's sub_table counts
+-- more values never make fewer rows, and each value's sub-table counts
 pub groups_longer : (f : ℕ → List Row) (n k : ℕ) → n ≤ k → length (flat (groups n f)) ≤ length (flat (groups k f))
 unfolding groups
 groups_longer f n k h = le_ind (λ k. length (flat (groups n f)) ≤ length (flat (groups k f))) (omega arith)

@@ -10,7 +10,7 @@ pub whole_part : (top : ℕ) (rest : List ℕ) (m : List ℕ → ℕ) → table 
 unfolding table
 whole_part top rest m = refl
 
--- a value's sub_table has no more rows than the table
+-- a value's sub-table has no more rows than the table
 pub sub_table_counts : (top : ℕ) (rest : List ℕ) (m : List ℕ → ℕ) (v : ℕ) → v ≤ top → length (sub_table rest m v) ≤ length (table (top ∷ rest) m)
 unfolding table
 sub_table_counts top rest m v h = groups_counts (sub_table rest m) v (suc top) (omega arith)
@@ -34,7 +34,7 @@ join_same low high t g gs e = joined (λ x. x ≡ record { low = g.low; high = h
 join_other : (low high : ℕ) (t : List Row) (g : Group) (gs : List Group) → g.rows ≢ t → join low high t (g ∷ gs) ≡ record { low = low; high = high; rows = t } ∷ g ∷ gs
 join_other low high t g gs n = joined (λ x. x ≡ record { low = low; high = high; rows = t } ∷ g ∷ gs) low high t g gs (λ e. absurd (n e)) (λ _. refl)
 
--- after the last group g, the values v..e are joined to it where it has their sub_table, and else are a new group
+-- after the last group g, the values v..e are joined to it where it has their sub-table, and else are a new group
 pub run : (rest : List ℕ) (m : List ℕ → ℕ) (v e : ℕ) (g : Group) (gs : List Group) → v ≤ e → Constant rest m v e → groups v (sub_table rest m) ≡ g ∷ gs
     → (g.rows ≡ sub_table rest m v → groups (suc e) (sub_table rest m) ≡ record { low = g.low; high = e; rows = g.rows } ∷ gs)
     × (g.rows ≢ sub_table rest m v → groups (suc e) (sub_table rest m) ≡ record { low = v; high = e; rows = sub_table rest m v } ∷ g ∷ gs)

@@ -13,7 +13,7 @@ table_ext [] m m' h = ap (λ (d : ℕ). record { ranges = []; decision = d } ∷
 table_ext (top ∷ rest) m m' h = ap flat (groups_ext (sub_table rest m) (sub_table rest m') (suc top)
     (λ v l. table_ext rest (λ q. m (v ∷ q)) (λ q. m' (v ∷ q)) (λ q w. h (v ∷ q) (omega arith, w))))
 
--- a lookup in the groups below n finds what the value's sub_table says
+-- a lookup in the groups below n finds what the value's sub-table says
 module _ (d : ℕ) (v : ℕ) (q : List ℕ) where
   joined_new : (low high : ℕ) (t : List Row) (gs : List Group) → Upto low gs → low ≤ v → v ≤ high → lookup_or d (flat (join low high t gs)) (v ∷ q) ≡ lookup_or d t q
   joined_new low high t [] u l h = in_last d (record { low = low; high = high; rows = t }) [] v q u l h

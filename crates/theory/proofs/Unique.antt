@@ -42,7 +42,7 @@ module _ (rest : List ℕ) (m : List ℕ → ℕ) where
   below_last : (g : Group) (gs : List Group) → Upto g.low gs → Below (suc g.high) (flat (g ∷ gs)) → (v : ℕ) → g.low ≤ v → v ≤ g.high → DecidesAs rest (λ q. m (v ∷ q)) g.rows
   below_last g gs u b v l h q w = sym (in_last 0 g gs v q u l h) ∙ b v (omega arith) q w
 
-  -- and so each group has the sub_table of each of its values
+  -- and so each group has the sub-table of each of its values
   unique_groups : ((k : List ℕ → ℕ) (rows : List Row) → Reduced rest rows → DecidesAs rest k rows → rows ≡ table rest k)
       → (n : ℕ) (gs : List Group) → Upto n gs → Each (λ g. Reduced rest g.rows) gs → Below n (flat gs)
       → Each (λ g. (v : ℕ) → g.low ≤ v → v ≤ g.high → sub_table rest m v ≡ g.rows) gs

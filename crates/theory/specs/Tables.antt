@@ -87,24 +87,24 @@ same_rows [] (b ∷ ys) = false
 same_rows (a ∷ xs) [] = false
 same_rows (a ∷ xs) (b ∷ ys) = a.decision == b.decision && same_ranges a.ranges b.ranges && same_rows xs ys
 
--- the values low..high, whose sub_table is t, are joined to the last group if it has the same sub_table, or are a new group
+-- the values low..high, whose sub-table is t, are joined to the last group if it has the same sub-table, or are a new group
 abbrev pub join : ℕ → ℕ → List Row → List Group → List Group
 join low high t [] = record { low = low; high = high; rows = t } ∷ []
 join low high t (g ∷ gs) = cond (same_rows g.rows t)
     (record { low = g.low; high = high; rows = t } ∷ gs)
     (record { low = low; high = high; rows = t } ∷ g ∷ gs)
 
--- the groups of the values below n, where f has the sub_table of each value
+-- the groups of the values below n, where f has the sub-table of each value
 unfoldable pub groups : ℕ → (ℕ → List Row) → List Group
 groups zero f = []
 groups (suc n) f = join n n (f n) (groups n f)
 
--- the table of m: for each value of the first field the sub_table of the later fields, equal neighbours joined
+-- the table of m: for each value of the first field the sub-table of the later fields, equal neighbours joined
 unfoldable pub table : List ℕ → (List ℕ → ℕ) → List Row
 table [] m = record { ranges = []; decision = m [] } ∷ []
 table (top ∷ rest) m = flat (groups (suc top) (λ v. table rest (λ q. m (v ∷ q))))
 
--- the sub_table of the value v of the first field
+-- the sub-table of the value v of the first field
 abbrev pub sub_table : List ℕ → (List ℕ → ℕ) → ℕ → List Row
 sub_table rest m v = table rest (λ q. m (v ∷ q))
 
