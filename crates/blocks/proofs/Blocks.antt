@@ -111,20 +111,20 @@ block_from kind number rows bytes few size h count numbered check each unused =
     again : (w p : ℕ) → p + w ≤ 512 → big_endian w (number_of (take w (drop p bytes))) ≡ take w (drop p bytes)
     again w p l = written_read w (take w (drop p bytes)) (length-take-le w (drop p bytes) (omega (arith, length-drop p bytes))) (bytes_take w (drop p bytes) (bytes_drop p bytes h))
 
-    rows-again : flat_map (row_bytes kind) rows ≡ take (28 * length rows) (drop 4 bytes)
-    rows-again = joined_parts (row_bytes kind) 28 none rows (drop 4 bytes) (λ j l. each j l ∙ ap (take 28) (sym (drop-drop (28 * j) 4 bytes)))
+    rows_again : flat_map (row_bytes kind) rows ≡ take (28 * length rows) (drop 4 bytes)
+    rows_again = joined_parts (row_bytes kind) 28 none rows (drop 4 bytes) (λ j l. each j l ∙ ap (take 28) (sym (drop-drop (28 * j) 4 bytes)))
 
-    unused-again : replicate (504 - 28 * length rows) 0 ≡ take (504 - 28 * length rows) (drop (4 + 28 * length rows) bytes)
-    unused-again = ap (λ (n : ℕ). replicate (504 - 28 * n) 0) (sym count)
+    unused_again : replicate (504 - 28 * length rows) 0 ≡ take (504 - 28 * length rows) (drop (4 + 28 * length rows) bytes)
+    unused_again = ap (λ (n : ℕ). replicate (504 - 28 * n) 0) (sym count)
         ∙ zeros (unused_in bytes) (504 - 28 * count_in bytes) (length-take-le (504 - 28 * count_in bytes) (drop (4 + 28 * count_in bytes) bytes) (omega (arith, length-drop (4 + 28 * count_in bytes) bytes))) unused
         ∙ ap (λ (n : ℕ). take (504 - 28 * n) (drop (4 + 28 * n) bytes)) count
 
     body : block_body kind number rows ≡ take 508 bytes
     body =
         let head = append_same (ap (big_endian 2) (sym count) ∙ again 2 0 (omega arith)) (ap (big_endian 2) (sym numbered) ∙ again 2 2 (omega arith)) ∙ sym (take-add 2 2 bytes) in
-        let front = append_same head rows-again ∙ sym (take-add 4 (28 * length rows) bytes) in
+        let front = append_same head rows_again ∙ sym (take-add 4 (28 * length rows) bytes) in
         let e : 4 + 28 * length rows + (504 - 28 * length rows) ≡ 508 = omega arith in
-        append_same front unused-again ∙ sym (take-add (4 + 28 * length rows) (504 - 28 * length rows) bytes) ∙ ap (λ (n : ℕ). take n bytes) e
+        append_same front unused_again ∙ sym (take-add (4 + 28 * length rows) (504 - 28 * length rows) bytes) ∙ ap (λ (n : ℕ). take n bytes) e
 
 -- how many rows the block with a number has
 pub length_of_block : (rows : List Row) (k : ℕ) → length (rows_of_block rows k) ≡ min 18 (length rows - 18 * k)

@@ -111,14 +111,14 @@ module _ (kind : ℕ) (rows : List Row) (small : kind < 256) (some : 1 ≤ lengt
     count_of : count_in (block_at (packed kind rows) k) ≡ length (rows_of_block rows k)
     count_of = ap count_in block_of ∙ count_block kind k (rows_of_block rows k) (few_of_block rows k) (fit_of k)
 
-    number-of-block : number_in (block_at (packed kind rows) k) ≡ k
-    number-of-block = ap number_in block_of ∙ number_block kind k (rows_of_block rows k) (few_of_block rows k) (fit_of k) (omega (arith, blocks_of))
+    number_of_block : number_in (block_at (packed kind rows) k) ≡ k
+    number_of_block = ap number_in block_of ∙ number_block kind k (rows_of_block rows k) (few_of_block rows k) (fit_of k) (omega (arith, blocks_of))
 
-    check-of : check_in (block_at (packed kind rows) k) ≡ check_sum (take 508 (block_at (packed kind rows) k))
-    check-of = subst (λ (b : List ℕ). check_in b ≡ check_sum (take 508 b)) (sym block_of) (check_block kind k (rows_of_block rows k) (few_of_block rows k) (fit_of k) small (decision_of k))
+    check_of : check_in (block_at (packed kind rows) k) ≡ check_sum (take 508 (block_at (packed kind rows) k))
+    check_of = subst (λ (b : List ℕ). check_in b ≡ check_sum (take 508 b)) (sym block_of) (check_block kind k (rows_of_block rows k) (few_of_block rows k) (fit_of k) small (decision_of k))
 
-    unused-of : (j : ℕ) → j < length (unused_in (block_at (packed kind rows) k)) → get_or (unused_in (block_at (packed kind rows) k)) j 0 ≡ 0
-    unused-of j l =
+    unused_of : (j : ℕ) → j < length (unused_in (block_at (packed kind rows) k)) → get_or (unused_in (block_at (packed kind rows) k)) j 0 ≡ 0
+    unused_of j l =
         let n = 504 - 28 * length (rows_of_block rows k) in
         let e : unused_in (block_at (packed kind rows) k) ≡ replicate n 0 = ap unused_in block_of ∙ unused_block kind k (rows_of_block rows k) (few_of_block rows k) (fit_of k) in
         ap (λ (x : List ℕ). get_or x j 0) e ∙ get_or-replicate n j 0 0 (omega (arith, ap length e, length-replicate {A = ℕ} n 0))
@@ -148,12 +148,12 @@ module _ (kind : ℕ) (rows : List Row) (small : kind < 256) (some : 1 ≤ lengt
   formed_of = record {
     whole = length-packed kind rows fit ∙ ap (λ (x : ℕ). 512 * x) (sym blocks_of);
     some = omega (arith, blocks_of);
-    checks = check-of;
+    checks = check_of;
     full = λ k h. omega (arith, blocks_of, count_of k (omega arith), length_of_block rows k);
     last_some = omega (arith, count_all, blocks_of);
     last_most = omega (arith, count_all, blocks_of);
-    numbers = number-of-block;
-    unused = λ k j h l. unused-of k h j l;
+    numbers = number_of_block;
+    unused = λ k j h l. unused_of k h j l;
     kinds = λ i h. (read_of i (omega (arith, count_all))).1;
   }
 

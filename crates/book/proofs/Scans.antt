@@ -59,27 +59,27 @@ module _ (f : ℕ) (p : List ℕ) (rules : List Rule) (i : ℕ) (most : List ℕ
     abbrev picked : Bool → Bool → List Rule
     picked a b = cond a (get_or rules i d ∷ cond b [] (looked_at f p (drop (i + 1) rules))) (looked_at f p (drop (i + 1) rules))
 
-    opened-look : from i ≡ nearest f p (picked plays sure)
+    opened_look : from i ≡ nearest f p (picked plays sure)
     unfolding looked_at
-    opened-look = rw (e, m) (at_drop_more (λ l. nearest f p (looked_at f p l)) rules i d h)
+    opened_look = rw (e, m) (at_drop_more (λ l. nearest f p (looked_at f p l)) rules i d h)
 
-    pub look-past : false ≡ plays → from i ≡ from (i + 1)
-    look-past out = opened-look ∙ ap (λ a. nearest f p (picked a sure)) (sym out)
+    pub look_past : false ≡ plays → from i ≡ from (i + 1)
+    look_past out = opened_look ∙ ap (λ a. nearest f p (picked a sure)) (sym out)
 
     module _ (end : ℕ) (is : end ≡ run_end (get_or most f 0) (range_at rs f) (get_or p f 0)) where
       same_end : run f p (get_or rules i d) ≡ end
       same_end = sym (is ∙ ap₂ (λ l ranges. run_end (get_or l f 0) (range_at ranges f) (get_or p f 0)) m e)
 
-      pub look-on : true ≡ plays → false ≡ sure → from i ≡ min end (from (i + 1))
+      pub look_on : true ≡ plays → false ≡ sure → from i ≡ min end (from (i + 1))
       unfolding nearest
-      look-on inn more = opened-look ∙ ap₂ (λ a b. nearest f p (picked a b)) (sym inn) (sym more) ∙ ap (λ n. min n (from (i + 1))) same_end
+      look_on inn more = opened_look ∙ ap₂ (λ a b. nearest f p (picked a b)) (sym inn) (sym more) ∙ ap (λ n. min n (from (i + 1))) same_end
 
-      pub look-outside : true ≡ plays → false ≡ inside (range_at rs f) (get_or p f 0) → from i ≡ min end (from (i + 1))
-      look-outside inn out = look-on inn (ap (λ b. b && all_whole (drop (suc f) most) (drop (suc f) rs)) out)
+      pub look_outside : true ≡ plays → false ≡ inside (range_at rs f) (get_or p f 0) → from i ≡ min end (from (i + 1))
+      look_outside inn out = look_on inn (ap (λ b. b && all_whole (drop (suc f) most) (drop (suc f) rs)) out)
 
-      pub look-last : true ≡ plays → true ≡ sure → from i ≡ min end (get_or most f 0)
+      pub look_last : true ≡ plays → true ≡ sure → from i ≡ min end (get_or most f 0)
       unfolding nearest
-      look-last inn last = opened-look ∙ ap₂ (λ a b. nearest f p (picked a b)) (sym inn) (sym last) ∙ ap₂ min same_end (ap (λ l. get_or l f 0) (sym m))
+      look_last inn last = opened_look ∙ ap₂ (λ a b. nearest f p (picked a b)) (sym inn) (sym last) ∙ ap₂ min same_end (ap (λ l. get_or l f 0) (sym m))
 
   pub look_end : length rules ≤ i → from i ≡ get_or most f 0
   unfolding nearest looked_at

@@ -42,16 +42,16 @@ module _ (f : ℕ) (p : List ℕ) where
 
   -- what is looked at ends no earlier than all
   module _ (rule : Rule) (rules looked : List Rule) (least : nearest f p rules ≤ nearest f p looked) where
-    later-by-one : (a b : Bool) → min (run f p rule) (nearest f p rules) ≤ nearest f p (cond a (rule ∷ cond b [] looked) looked)
+    later_by_one : (a b : Bool) → min (run f p rule) (nearest f p rules) ≤ nearest f p (cond a (rule ∷ cond b [] looked) looked)
     unfolding nearest
-    later-by-one true true = omega (arith, nearest_most rules)
-    later-by-one true false = omega arith
-    later-by-one false b = omega arith
+    later_by_one true true = omega (arith, nearest_most rules)
+    later_by_one true false = omega arith
+    later_by_one false b = omega arith
 
   nearest_of_all : (rules : List Rule) → nearest f p rules ≤ nearest f p (looked_at f p rules)
   unfolding nearest looked_at
   nearest_of_all [] = omega arith
-  nearest_of_all (rule ∷ rules) = later-by-one rule rules (looked_at f p rules) (nearest_of_all rules) (in_play f p rule) (settles f p rule)
+  nearest_of_all (rule ∷ rules) = later_by_one rule rules (looked_at f p rules) (nearest_of_all rules) (in_play f p rule) (settles f p rule)
 
   -- one rule more: x, no further than the rules looked at, is decided as p's own value
   module _ (x : ℕ) (from : slice_index_or p f 0 ≤ x) (rule : Rule) (looked : List Rule) (there here : ℕ) (w : Bool)
@@ -60,17 +60,17 @@ module _ (f : ℕ) (p : List ℕ) where
     abbrev hit : ℕ → Bool
     hit v = inside (range_at (ranges rule.region) f) v
 
-    alike-by-one : (a b : Bool) → settles f p rule ≡ b → x ≤ nearest f p (cond a (rule ∷ cond b [] looked) looked)
+    alike_by_one : (a b : Bool) → settles f p rule ≡ b → x ≤ nearest f p (cond a (rule ∷ cond b [] looked) looked)
         → cond (a && (hit x && w)) rule.decision there ≡ cond (a && (hit (slice_index p f) && w)) rule.decision here
     unfolding nearest
-    alike-by-one false b e h = others h
-    alike-by-one true true e h =
+    alike_by_one false b e h = others h
+    alike_by_one true true e h =
         let same = run_alike (slice_index tops f) (range_at (ranges rule.region) f) (slice_index p f) x from (omega arith) in
         let parts = and_parts (hit (slice_index p f)) _ e in
         let full = fills parts.1 in
         ap₂ (λ s t. cond (s && t) rule.decision there) (same ∙ parts.0) full
         ∙ sym (ap₂ (λ s t. cond (s && t) rule.decision here) parts.0 full)
-    alike-by-one true false e h =
+    alike_by_one true false e h =
         let same = run_alike (slice_index tops f) (range_at (ranges rule.region) f) (slice_index p f) x from (omega arith) in
         ap₂ (λ s m. cond (s && w) rule.decision m) same (others (omega arith))
 
@@ -84,7 +84,7 @@ module _ (f : ℕ) (p : List ℕ) where
         let rs = ranges rule.region in
         let at : (v : ℕ) → holds rs (take f p ++ (v ∷ rest)) ≡ (in_play f p rule && (inside (range_at rs f) v && holds (drop (suc f) rs) rest)) = λ v. holds_at rs p f v rest few (omega arith) in
         ap (λ t. cond t rule.decision (first silent rules (take f p ++ (x ∷ rest)))) (at x)
-        ∙ alike-by-one x from rule (looked_at f p rules) _ _ (holds (drop (suc f) rs) rest) (λ e. whole_holds (drop (suc f) tops) (drop (suc f) rs) rest e fits)
+        ∙ alike_by_one x from rule (looked_at f p rules) _ _ (holds (drop (suc f) rs) rest) (λ e. whole_holds (drop (suc f) tops) (drop (suc f) rs) rest e fits)
         (first_alike rules) (in_play f p rule) (settles f p rule) refl h
         ∙ sym (ap (λ t. cond t rule.decision (first silent rules (take f p ++ (slice_index p f ∷ rest)))) (at (slice_index p f)))
 

@@ -34,7 +34,7 @@ over_holds (r ∷ a) (s ∷ b) (v ∷ p) h k =
     let over = and_parts _ _ h in
     let ends = and_parts _ _ over.0 in
     let held = and_parts _ _ k in
-    let v-in = inside_parts s v held.0 in
+    let v_in = inside_parts s v held.0 in
     let low = leb-true r.low s.low ends.0 in
     let high = leb-true s.high r.high ends.1 in
     and_from _ _ (inside_from r v (omega arith) (omega arith)) (over_holds a b p over.1 held.1)

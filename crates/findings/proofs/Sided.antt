@@ -16,8 +16,8 @@ module _ (a b : List (Range ℕ)) (i : ℕ) (d : Range ℕ) (ha : i < length a) 
   opened f = ap₂ f (drop_more a i d ha) (drop_more b i d hb)
 
   module _ (passed : Bool) where
-    pub covers-reversed : true ≡ reversed (get_or b i d) → covers_from passed a b i ≡ true
-    covers-reversed e = or_left _ _ (ap any_reversed (drop_more b i d hb) ∙ or_left _ _ (sym e))
+    pub covers_reversed : true ≡ reversed (get_or b i d) → covers_from passed a b i ≡ true
+    covers_reversed e = or_left _ _ (ap any_reversed (drop_more b i d hb) ∙ or_left _ _ (sym e))
 
     module _ (e : false ≡ reversed (get_or b i d)) where
       unreversed : any_reversed (drop i b) ≡ any_reversed (drop (i + 1) b)
@@ -41,13 +41,13 @@ module _ (a b : List (Range ℕ)) (i : ℕ) (d : Range ℕ) (ha : i < length a) 
       covers_high h = fails (opened reaches_over ∙ and_left _ _ (and_right _ _ (lt-leb _ _ h)))
 
   module _ (start end : ℕ) (es : start ≡ max (get_or a i d).low (get_or b i d).low) (ee : end ≡ min (get_or a i d).high (get_or b i d).high) where
-    pub shares-more : start ≤ end → shares_ranges (drop i a) (drop i b) ≡ shares_ranges (drop (i + 1) a) (drop (i + 1) b)
+    pub shares_more : start ≤ end → shares_ranges (drop i a) (drop i b) ≡ shares_ranges (drop (i + 1) a) (drop (i + 1) b)
     unfolding shares_ranges
-    shares-more h = opened shares_ranges ∙ ap (λ s. s && shares_ranges (drop (i + 1) a) (drop (i + 1) b)) (le-leb _ _ (omega (arith, h, es, ee)))
+    shares_more h = opened shares_ranges ∙ ap (λ s. s && shares_ranges (drop (i + 1) a) (drop (i + 1) b)) (le-leb _ _ (omega (arith, h, es, ee)))
 
-    pub shares-none : end < start → shares_ranges (drop i a) (drop i b) ≡ false
+    pub shares_none : end < start → shares_ranges (drop i a) (drop i b) ≡ false
     unfolding shares_ranges
-    shares-none h = opened shares_ranges ∙ and_left _ _ (lt-leb (max (get_or a i d).low (get_or b i d).low) (min (get_or a i d).high (get_or b i d).high) (omega (arith, h, es, ee)))
+    shares_none h = opened shares_ranges ∙ and_left _ _ (lt-leb (max (get_or a i d).low (get_or b i d).low) (min (get_or a i d).high (get_or b i d).high) (omega (arith, h, es, ee)))
 
 module _ (a b : List (Range ℕ)) (i : ℕ) (ha : length a ≤ i) (hb : length b ≤ i) where
   pub covers_end : (passed : Bool) → covers_from passed a b i ≡ passed

@@ -19,7 +19,7 @@ use Rattle.text.specs.Readings.{Reading, ended, added, add_line, lines_from}
 use Rattle.text.proofs.Lined.{lines_more}
 use Rattle.listing.specs.Listings.{rules_text, all_speak, ReadsBack}
 use Rattle.listing.proofs.Cuts.{Without, pieces_first}
-use Rattle.listing.proofs.Lined.{AllSound, all_sound, line-letters, line-back, line-short}
+use Rattle.listing.proofs.Lined.{AllSound, all_sound, line_letters, line_back, line_short}
 
 -- the rule's ends fit their fields and are in order
 pub record Proper (rule : Rule) : Type 0 where
@@ -36,9 +36,9 @@ module _ (count silent : ℕ) (spelling : ℕ → List ℕ) (words : Words count
   abbrev line : Rule → List ℕ
   line rule = line_text spelling rule.decision (ranges rule.region)
 
-  module _ (rule : Rule) (proper : Proper rule) (speaks-it : speaks count silent rule.decision ≡ true) where
+  module _ (rule : Rule) (proper : Proper rule) (speaks_it : speaks count silent rule.decision ≡ true) where
     parts : (ltb rule.decision count ≡ true) × (not (eqb rule.decision silent) ≡ true)
-    parts = and_parts (ltb rule.decision count) (not (eqb rule.decision silent)) speaks-it
+    parts = and_parts (ltb rule.decision count) (not (eqb rule.decision silent)) speaks_it
 
     of_kind : rule.decision < count
     of_kind = ltb-true rule.decision count parts.0
@@ -47,14 +47,14 @@ module _ (count silent : ℕ) (spelling : ℕ → List ℕ) (words : Words count
     sound = all_sound rule.region proper.fit proper.forward
 
     back : line_of read (line rule) ≡ Ok (Some rule)
-    back = line-back read spelling rule (words.stands_first rule.decision of_kind) sound
+    back = line_back read spelling rule (words.stands_first rule.decision of_kind) sound
         (words.read_back rule.decision of_kind (eqb-false rule.decision silent (not-true (eqb rule.decision silent) parts.1)))
 
-    no-feed : Without 10 (line rule)
-    no-feed = All-weaker _ _ (λ b p e. omega (arith, p.0)) (line rule) (line-letters read spelling rule (words.stands_first rule.decision of_kind) sound)
+    no_feed : Without 10 (line rule)
+    no_feed = All-weaker _ _ (λ b p e. omega (arith, p.0)) (line rule) (line_letters read spelling rule (words.stands_first rule.decision of_kind) sound)
 
     short : length (line rule) ≤ 224
-    short = line-short read spelling rule (words.stands_first rule.decision of_kind) sound (words.short rule.decision of_kind)
+    short = line_short read spelling rule (words.stands_first rule.decision of_kind) sound (words.short rule.decision of_kind)
 
     -- a line of the text is taken where the book has room
     taken : (number : ℕ) (done : List Rule) → length done < 64 → add_line read number (line rule) done ≡ ended (Ok tt) (done ++ (rule ∷ []))
@@ -71,10 +71,10 @@ module _ (count silent : ℕ) (spelling : ℕ → List ℕ) (words : Words count
   lines_back (rule ∷ rules) done number few proper speak =
       let says = and_parts (speaks count silent rule.decision) (all_speak count silent rules) speak in
       let room : length done < 64 = omega arith in
-      let added-it = taken rule proper.0 says.0 number done room in
+      let added_it = taken rule proper.0 says.0 number done room in
       let fewer : length (done ++ (rule ∷ [])) + length rules ≤ 64 = omega (arith, length-append done (rule ∷ [])) in
-      ap (λ ls. lines_from read number ls done) (pieces_first 10 (line rule) (rules_text spelling rules) (no-feed rule proper.0 says.0))
-      ∙ lines_more read number (line rule) (pieces 10 (rules_text spelling rules)) done (done ++ (rule ∷ [])) (sym (ap (λ (s : Reading). s.answer) added-it)) (sym (ap (λ (s : Reading). s.rules) added-it))
+      ap (λ ls. lines_from read number ls done) (pieces_first 10 (line rule) (rules_text spelling rules) (no_feed rule proper.0 says.0))
+      ∙ lines_more read number (line rule) (pieces 10 (rules_text spelling rules)) done (done ++ (rule ∷ [])) (sym (ap (λ (s : Reading). s.answer) added_it)) (sym (ap (λ (s : Reading). s.rules) added_it))
       ∙ lines_back rules (done ++ (rule ∷ [])) (number + 1) fewer proper.1 says.1
       ∙ ap (ended (Ok tt)) (append_assoc done (rule ∷ []) rules)
 

@@ -36,17 +36,17 @@ AllSound (field ∷ more) (r ∷ rs) = Sound (top field) r × AllSound more rs
 pub all_sound : (g : Region) → Fit tops (ranges g) → any_reversed (ranges g) ≡ false → AllSound fields (ranges g)
 all_sound g fit forward =
     let source = or_parts (reversed g.source) _ forward in
-    let source-port = or_parts (reversed g.source_port) _ source.1 in
-    let destination = or_parts (reversed g.destination) _ source-port.1 in
-    let destination-port = or_parts (reversed g.destination_port) _ destination.1 in
-    let protocol = or_parts (reversed g.protocol) _ destination-port.1 in (
+    let source_port = or_parts (reversed g.source_port) _ source.1 in
+    let destination = or_parts (reversed g.destination) _ source_port.1 in
+    let destination_port = or_parts (reversed g.destination_port) _ destination.1 in
+    let protocol = or_parts (reversed g.protocol) _ destination_port.1 in (
       record { low_within = fit.0; high_within = fit.1; forward = source.0 },
       (
-        record { low_within = fit.2.0; high_within = fit.2.1; forward = source-port.0 },
+        record { low_within = fit.2.0; high_within = fit.2.1; forward = source_port.0 },
         (
           record { low_within = fit.2.2.0; high_within = fit.2.2.1; forward = destination.0 },
           (
-            record { low_within = fit.2.2.2.0; high_within = fit.2.2.2.1; forward = destination-port.0 },
+            record { low_within = fit.2.2.2.0; high_within = fit.2.2.2.1; forward = destination_port.0 },
             (record { low_within = fit.2.2.2.2.0; high_within = fit.2.2.2.2.1; forward = protocol.0 }, tt),
           ),
         ),
@@ -148,8 +148,8 @@ module _ (read : List ℕ → Option ℕ) (spelling : ℕ → List ℕ) (rule : 
     first : First word
     first = first_back word stands
 
-    pub line-letters : Between 32 126 line
-    line-letters =
+    pub line_letters : Between 32 126 line
+    line_letters =
         All-append _ word (ranges_text fields (ranges rule.region)) (wider 33 126 32 126 word (omega arith) (omega arith) first.inside) (ranges_letters fields (ranges rule.region) sound)
 
     cut : pieces 32 line ≡ word ∷ words fields (ranges rule.region)
@@ -162,18 +162,18 @@ module _ (read : List ℕ → Option ℕ) (spelling : ℕ → List ℕ) (rule : 
         ∙ cond-false (eqb (length word) 0) _ _ first.some
         ∙ words_back (length line + 1) (1 + length word + 1) fields (ranges rule.region) sound
 
-    rule-back : read word ≡ Some rule.decision → rule_of read (pieces 32 line) ≡ Ok rule
-    rule-back back =
+    rule_back : read word ≡ Some rule.decision → rule_of read (pieces 32 line) ≡ Ok rule
+    rule_back back =
         ap (rule_of read) cut
         ∙ ap₂ (λ (d : Option ℕ) (rs : Result (List (Range ℕ)) LineFault). then (decision_of d) (λ decision. then (then rs (λ ranges. Ok (region_of ranges))) (λ region. Ok (record { region = region; decision = decision }))))
         back (ranges_back fields (ranges rule.region) (1 + length word + 1) sound)
 
-    pub line-back : read word ≡ Some rule.decision → line_of read line ≡ Ok (Some rule)
-    line-back back =
+    pub line_back : read word ≡ Some rule.decision → line_of read line ≡ Ok (Some rule)
+    line_back back =
         ap (λ (l : Result (Unit {0}) LetterFault). then (carried Letter l) (λ _. cond (skipped line) (Ok None) (then (words_of line) (λ _. then (rule_of read (pieces 32 line)) (λ rule. Ok (Some rule))))))
-        (letters_back 1 line line-letters)
+        (letters_back 1 line line_letters)
         ∙ cond-false (skipped line) _ _ (first.spoken (ranges_text fields (ranges rule.region)))
-        ∙ ap₂ (λ (c : Result (Unit {0}) LineFault) (r : Result Rule LineFault). then c (λ _. then r (λ rule. Ok (Some rule)))) six (rule-back back)
+        ∙ ap₂ (λ (c : Result (Unit {0}) LineFault) (r : Result Rule LineFault). then c (λ _. then r (λ rule. Ok (Some rule)))) six (rule_back back)
 
-    pub line-short : length word ≤ 64 → length line ≤ 224
-    line-short short = omega (arith, length-append word (ranges_text fields (ranges rule.region)), ranges_short fields (ranges rule.region) sound)
+    pub line_short : length word ≤ 64 → length line ≤ 224
+    line_short short = omega (arith, length-append word (ranges_text fields (ranges rule.region)), ranges_short fields (ranges rule.region) sound)

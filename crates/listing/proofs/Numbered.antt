@@ -23,13 +23,13 @@ wider low high low' high' bs l h = All-weaker _ _ (λ b p. (omega (arith, p.0), 
 value_push : (n v c d : ℕ) (ds : List ℕ) → value_from n ds ≡ Some v → digit_of c ≡ Some d → value_from n (ds ++ (c ∷ [])) ≡ Some (v * 10 + d)
 unfolding value_from
 value_push n v c d [] e f = let same : n ≡ v = cc in ap (λ (r : Option ℕ). elim r [ None ↦ None | Some d ↦ Some (n * 10 + d) ]) f ∙ ap (λ k. Some (k * 10 + d)) same
-value_push n v c d (b ∷ bs) e f = at-digit (digit_of b) e (λ x h. value_push (n * 10 + x) v c d bs h f)
+value_push n v c d (b ∷ bs) e f = at_digit (digit_of b) e (λ x h. value_push (n * 10 + x) v c d bs h f)
   where
-    at-digit : (r : Option ℕ) → elim r [ None ↦ None | Some d ↦ value_from (n * 10 + d) bs ] ≡ Some v
+    at_digit : (r : Option ℕ) → elim r [ None ↦ None | Some d ↦ value_from (n * 10 + d) bs ] ≡ Some v
         → ((x : ℕ) → value_from (n * 10 + x) bs ≡ Some v → value_from (n * 10 + x) (bs ++ (c ∷ [])) ≡ Some (v * 10 + d))
         → elim r [ None ↦ None | Some d ↦ value_from (n * 10 + d) (bs ++ (c ∷ [])) ] ≡ Some (v * 10 + d)
-    at-digit None e later = let z : ◌≡◌ {A = ℕ} 0 1 = cc in absurd (omega arith)
-    at-digit (Some x) e later = later x e
+    at_digit None e later = let z : ◌≡◌ {A = ℕ} 0 1 = cc in absurd (omega arith)
+    at_digit (Some x) e later = later x e
 
 digit_back : (d : ℕ) → d < 10 → digit_of (48 + d) ≡ Some d
 digit_back d h =

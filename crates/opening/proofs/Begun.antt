@@ -77,8 +77,8 @@ module _ (rows : List Row) where
     unfolding nesting_damage
     left b u = or_second _ _ (ap (λ k. first k nesting_at) (sym all) ∙ n) ∙ ap₂ (λ p k. found (not p) (NotNested k)) (ends ∙ u) (sym all)
 
-    pub ended-short : at_end tops a ≡ false → Err (NotNested row) ≡ unless {T = Unit {0}} (nesting_damage rows) tt
-    ended-short u = ap (λ o. unless o tt) (sym (left false u))
+    pub ended_short : at_end tops a ≡ false → Err (NotNested row) ≡ unless {T = Unit {0}} (nesting_damage rows) tt
+    ended_short u = ap (λ o. unless o tt) (sym (left false u))
 
-    pub ended-whole : at_end tops a ≡ true → (Ok tt ≡ unless {T = Unit {0}} (nesting_damage rows) tt) × (passes tops rows ≡ true)
-    ended-whole u = (ap (λ o. unless o tt) (sym (left true u)), ends ∙ u)
+    pub ended_whole : at_end tops a ≡ true → (Ok tt ≡ unless {T = Unit {0}} (nesting_damage rows) tt) × (passes tops rows ≡ true)
+    ended_whole u = (ap (λ o. unless o tt) (sym (left true u)), ends ∙ u)

@@ -6,7 +6,7 @@ use Rattle.damage.specs.declared.damage.Damage.TheVariants.{Length}
 use Rattle.opening.specs.Answers.{unless, inspected}
 use Rattle.opening.specs.Damages.{or_else, first, wrong_length, block_damage, nesting_damage, neighbour_damage, damage_of}
 use Rattle.opening.specs.Firsts.{first_none, first_found, some_found, none_found, or_first, or_second}
-use Rattle.opening.specs.Sound.{sound-block}
+use Rattle.opening.specs.Sound.{sound_block}
 
 -- an answer, read back
 pub was_damage : {T : Type 0} (o : Option Damage) (d : Damage) (x : T) → Err d ≡ unless o x → o ≡ Some d
@@ -32,24 +32,24 @@ module _ (label size : ℕ) (bytes : List ℕ) where
     unfolding damage_of
     rest = or_second _ _ (none_found _ _ good)
 
-    pub by-block : (k : ℕ) (d : Damage) → k < blocks_in bytes → first k (block_damage label size bytes) ≡ None → block_damage label size bytes k ≡ Some d → Err d ≡ inspected label size bytes
-    by-block k d h n e = ap (λ o. unless o (row_count bytes)) (sym (rest ∙ or_first _ _ _ (first_found (blocks_in bytes) (block_damage label size bytes) k d h n e)))
+    pub by_block : (k : ℕ) (d : Damage) → k < blocks_in bytes → first k (block_damage label size bytes) ≡ None → block_damage label size bytes k ≡ Some d → Err d ≡ inspected label size bytes
+    by_block k d h n e = ap (λ o. unless o (row_count bytes)) (sym (rest ∙ or_first _ _ _ (first_found (blocks_in bytes) (block_damage label size bytes) k d h n e)))
 
     module _ (blocks : first (blocks_in bytes) (block_damage label size bytes) ≡ None) where
       left : damage_of label size bytes ≡ or_else (nesting_damage (rows_in bytes)) (neighbour_damage (rows_in bytes))
       left = rest ∙ or_second _ _ blocks
 
-      pub by-nesting : (d : Damage) → nesting_damage (rows_in bytes) ≡ Some d → Err d ≡ inspected label size bytes
-      by-nesting d e = ap (λ o. unless o (row_count bytes)) (sym (left ∙ or_first _ _ _ e))
+      pub by_nesting : (d : Damage) → nesting_damage (rows_in bytes) ≡ Some d → Err d ≡ inspected label size bytes
+      by_nesting d e = ap (λ o. unless o (row_count bytes)) (sym (left ∙ or_first _ _ _ e))
 
-      pub by-neighbours : (d : Damage) → nesting_damage (rows_in bytes) ≡ None → neighbour_damage (rows_in bytes) ≡ Some d → Err d ≡ inspected label size bytes
-      by-neighbours d n e = ap (λ o. unless o (row_count bytes)) (sym (left ∙ or_second _ _ n ∙ e))
+      pub by_neighbours : (d : Damage) → nesting_damage (rows_in bytes) ≡ None → neighbour_damage (rows_in bytes) ≡ Some d → Err d ≡ inspected label size bytes
+      by_neighbours d n e = ap (λ o. unless o (row_count bytes)) (sym (left ∙ or_second _ _ n ∙ e))
 
-      pub by-none : nesting_damage (rows_in bytes) ≡ None → neighbour_damage (rows_in bytes) ≡ None → Ok (row_count bytes) ≡ inspected label size bytes
-      by-none n e = ap (λ o. unless o (row_count bytes)) (sym (left ∙ or_second _ _ n ∙ e))
+      pub by_none : nesting_damage (rows_in bytes) ≡ None → neighbour_damage (rows_in bytes) ≡ None → Ok (row_count bytes) ≡ inspected label size bytes
+      by_none n e = ap (λ o. unless o (row_count bytes)) (sym (left ∙ or_second _ _ n ∙ e))
 
       -- there are some rows, and no more than the blocks have room for
       pub counted : 1 ≤ blocks_in bytes → (0 < row_count bytes) × (row_count bytes ≤ 18 * blocks_in bytes)
       counted h =
-          let last = (sound-block label size bytes (blocks_in bytes - 1) (first_none (blocks_in bytes) (block_damage label size bytes) blocks (blocks_in bytes - 1) (omega arith))).last (omega arith) in
+          let last = (sound_block label size bytes (blocks_in bytes - 1) (first_none (blocks_in bytes) (block_damage label size bytes) blocks (blocks_in bytes - 1) (omega arith))).last (omega arith) in
           (omega (arith, last.0), omega (arith, last.1))

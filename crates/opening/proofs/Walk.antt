@@ -58,8 +58,8 @@ module _ (rows : List Row) (f : ℕ) (p q : List ℕ) where
     here = drop_more tops f 0 below ∙ ap (λ n. get_or tops f 0 ∷ drop n tops) (add-one f)
 
     -- all values of the field agree: so do the packets
-    pub all-agree : Agrees (suc (get_or tops f 0)) → alike (drop f tops) (left_of p) (left_of q) ≡ true
-    all-agree g = (alike_tells (drop f tops) (left_of p) (left_of q)).1 (λ s i. by s (subst (λ ts. Within ts s) here i))
+    pub all_agree : Agrees (suc (get_or tops f 0)) → alike (drop f tops) (left_of p) (left_of q) ≡ true
+    all_agree g = (alike_tells (drop f tops) (left_of p) (left_of q)).1 (λ s i. by s (subst (λ ts. Within ts s) here i))
       where
         by : (s : List ℕ) → Within (get_or tops f 0 ∷ drop (suc f) tops) s → left_of p s ≡ left_of q s
         by [] i = absurd i
@@ -70,9 +70,9 @@ module _ (rows : List Row) (f : ℕ) (p q : List ℕ) where
       one_more a b i e s = ap (λ l. take (f + 1) l ++ s) e ∙ ap (λ l. l ++ s) (take_more_set a f v (omega (arith, within_length tops a i))) ∙ append_assoc (take f a) (v ∷ []) s
 
       -- the values of the later fields, under the value v, are decided as the next field's walk tells
-      under-value : alike (drop (f + 1) tops) (λ s. lookup rows (take (f + 1) p1 ++ s)) (λ s. lookup rows (take (f + 1) q1 ++ s)) ≡ true
+      under_value : alike (drop (f + 1) tops) (λ s. lookup rows (take (f + 1) p1 ++ s)) (λ s. lookup rows (take (f + 1) q1 ++ s)) ≡ true
           → (rest : List ℕ) → Within (drop (suc f) tops) rest → lookup rows (take f p ++ (v ∷ rest)) ≡ lookup rows (take f q ++ (v ∷ rest))
-      under-value t rest i =
+      under_value t rest i =
           ap (lookup rows) (sym (one_more p p1 w pe rest))
           ∙ (alike_tells (drop (f + 1) tops) (λ s. lookup rows (take (f + 1) p1 ++ s)) (λ s. lookup rows (take (f + 1) q1 ++ s))).0 t rest (subst (λ n. Within (drop n tops) rest) (sym (add-one f)) i)
           ∙ ap (lookup rows) (one_more q q1 u qe rest)
@@ -89,9 +89,9 @@ module _ (rows : List Row) (f : ℕ) (p q : List ℕ) where
       ]
 
       -- a row's range reaches as far as its end: up to there the field's values are decided as v is
-      as-value : (a b : List ℕ) → Within tops a → b ≡ set a f v → (x : ℕ) (rest : List ℕ) → v ≤ x → x ≤ (range_at (held rows b) f).high → Within (drop (suc f) tops) rest
+      as_value : (a b : List ℕ) → Within tops a → b ≡ set a f v → (x : ℕ) (rest : List ℕ) → v ≤ x → x ≤ (range_at (held rows b) f).high → Within (drop (suc f) tops) rest
           → lookup rows (take f a ++ (x ∷ rest)) ≡ lookup rows (take f a ++ (v ∷ rest))
-      as-value a b i e x rest l h k =
+      as_value a b i e x rest l h k =
           let wb : Within tops b = subst (Within tops) (sym e) (within_set tops a f v i below most) in
           let r = reaches tops rows nested b wb f below in
           let at : get_or b f 0 ≡ v = ap (λ l. get_or l f 0) e ∙ get_or-set_same a f v 0 (omega (arith, within_length tops a i)) in
@@ -101,17 +101,17 @@ module _ (rows : List Row) (f : ℕ) (p q : List ℕ) where
           ∙ ap (λ l. lookup rows (l ++ (v ∷ rest))) same
 
       -- the walk's step: what agrees below v, and at v, agrees up to the nearer end
-      pub agree-more : Agrees v
+      pub agree_more : Agrees v
           → alike (drop (f + 1) tops) (λ s. lookup rows (take (f + 1) p1 ++ s)) (λ s. lookup rows (take (f + 1) q1 ++ s)) ≡ true
           → (end : ℕ) → end ≡ min (range_at (held rows p1) f).high (range_at (held rows q1) f).high → Agrees (suc end)
-      agree-more g t end e x rest h i = elim (cases_lt x v) [
+      agree_more g t end e x rest h i = elim (cases_lt x v) [
         | inl l ↦ g x rest l i
-        | inr l ↦ as-value p p1 w pe x rest l (omega arith) i ∙ under-value t rest i ∙ sym (as-value q q1 u qe x rest l (omega arith) i)
+        | inr l ↦ as_value p p1 w pe x rest l (omega arith) i ∙ under_value t rest i ∙ sym (as_value q q1 u qe x rest l (omega arith) i)
       ]
 
       -- the nearer end is a value of the field, and not below v
-      pub end-from : (end : ℕ) → end ≡ min (range_at (held rows p1) f).high (range_at (held rows q1) f).high → (v ≤ end) × (end ≤ get_or tops f 0)
-      end-from end e =
+      pub end_from : (end : ℕ) → end ≡ min (range_at (held rows p1) f).high (range_at (held rows q1) f).high → (v ≤ end) × (end ≤ get_or tops f 0)
+      end_from end e =
           let bounds : (a b : List ℕ) → Within tops a → b ≡ set a f v → (v ≤ (range_at (held rows b) f).high) × ((range_at (held rows b) f).high ≤ get_or tops f 0) = λ a b i k.
           let r = reaches tops rows nested b (subst (Within tops) (sym k) (within_set tops a f v i below most)) f below in
           let at : get_or b f 0 ≡ v = ap (λ l. get_or l f 0) k ∙ get_or-set_same a f v 0 (omega (arith, within_length tops a i)) in

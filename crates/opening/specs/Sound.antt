@@ -47,22 +47,22 @@ module _ (label size : ℕ) (bytes : List ℕ) where
 
   module _ (k : ℕ) where
     -- the damage of a row of the block
-    abbrev row-damage : ℕ → Option Damage
-    row-damage j = found (foreign label size bytes (18 * k + j)) (Foreign (18 * k + j))
+    abbrev row_damage : ℕ → Option Damage
+    row_damage j = found (foreign label size bytes (18 * k + j)) (Foreign (18 * k + j))
 
     -- is the block's count right?
-    abbrev right-count : Bool
-    right-count = is_count (nat_le (blocks_in bytes) (suc k)) (count_in (block_at bytes k))
+    abbrev right_count : Bool
+    right_count = is_count (nat_le (blocks_in bytes) (suc k)) (count_in (block_at bytes k))
 
     -- a block without damage is right
-    pub sound-block : block_damage label size bytes k ≡ None → Sound label size bytes k
+    pub sound_block : block_damage label size bytes k ≡ None → Sound label size bytes k
     unfolding block_damage
-    sound-block e =
+    sound_block e =
         let count : ℕ = count_in (block_at bytes k) in
         let o = or_none (found (wrong_check bytes k) (Check k)) _ e in
-        let p = or_none (found (not (framed bytes k)) (Frame k)) (first count row-damage) o.1 in
-        let f = and_parts (right-count && number_in (block_at bytes k) == k) (all_zero (unused_in (block_at bytes k))) (not-false _ (found_none _ _ p.0)) in
-        let g = and_parts right-count (number_in (block_at bytes k) == k) f.0 in
+        let p = or_none (found (not (framed bytes k)) (Frame k)) (first count row_damage) o.1 in
+        let f = and_parts (right_count && number_in (block_at bytes k) == k) (all_zero (unused_in (block_at bytes k))) (not-false _ (found_none _ _ p.0)) in
+        let g = and_parts right_count (number_in (block_at bytes k) == k) f.0 in
         record {
           check = eqb-true _ _ (not-false _ (found_none _ _ o.0));
           full = λ h. eqb-true count 18 (sym (cond-false _ _ _ (lt-leb (blocks_in bytes) (suc k) h)) ∙ g.0);
@@ -71,19 +71,19 @@ module _ (label size : ℕ) (bytes : List ℕ) where
               (leb-true 1 count a.0, leb-true count 18 a.1);
           number = eqb-true _ _ g.1;
           unused = zero_at _ f.1;
-          rows = λ j h. native_row (18 * k + j) (found_none _ _ (first_none count row-damage p.1 j h));
+          rows = λ j h. native_row (18 * k + j) (found_none _ _ (first_none count row_damage p.1 j h));
         }
 
-    count-right : Sound label size bytes k → right-count ≡ true
-    count-right s = elim (cases_lt (suc k) (blocks_in bytes)) [
+    count_right : Sound label size bytes k → right_count ≡ true
+    count_right s = elim (cases_lt (suc k) (blocks_in bytes)) [
       | inl h ↦ cond-false _ _ _ (lt-leb (blocks_in bytes) (suc k) h) ∙ eq-eqb _ _ (s.full h)
       | inr h ↦ cond-true _ _ _ (le-leb (blocks_in bytes) (suc k) h) ∙ and_from _ _ (le-leb _ _ (s.last h).0) (le-leb _ _ (s.last h).1)
     ]
 
     -- and a block that is right has no damage
-    pub block-sound : Sound label size bytes k → block_damage label size bytes k ≡ None
+    pub block_sound : Sound label size bytes k → block_damage label size bytes k ≡ None
     unfolding block_damage
-    block-sound s = none_or _ _ (none_found _ _ (not_from_true _ (eq-eqb _ _ s.check)))
+    block_sound s = none_or _ _ (none_found _ _ (not_from_true _ (eq-eqb _ _ s.check)))
         (none_or _ _
-        (none_found _ _ (not_from_true _ (and_from _ _ (and_from _ _ (count-right s) (eq-eqb _ _ s.number)) (at_zero _ s.unused))))
-        (none_first (count_in (block_at bytes k)) row-damage (λ j h. none_found _ _ (row_native (18 * k + j) (s.rows j h)))))
+        (none_found _ _ (not_from_true _ (and_from _ _ (and_from _ _ (count_right s) (eq-eqb _ _ s.number)) (at_zero _ s.unused))))
+        (none_first (count_in (block_at bytes k)) row_damage (λ j h. none_found _ _ (row_native (18 * k + j) (s.rows j h)))))

@@ -20,7 +20,7 @@ use Rattle.opening.specs.Damages.{found, first, wrong_length, block_damage, nest
 use Rattle.opening.specs.Opened.{Decided}
 use Rattle.opening.specs.Firsts.{found_none, none_found, or_none, none_or, first_none, none_first}
 use Rattle.opening.specs.WordsLemmas.{nesting_passes, nested_undamaged, neighbours_reduced, reduced_undamaged}
-use Rattle.opening.specs.Sound.{Native, Sound, sound-block, block-sound}
+use Rattle.opening.specs.Sound.{Native, Sound, sound_block, block_sound}
 
 -- whatever m decides: if the bytes are the packed form of its table, they have no damage, and their rows decide every packet as m does
 abbrev pub OpensPacked : ℕ → ℕ → List ℕ → Type 0
@@ -75,7 +75,7 @@ module _ (label size : ℕ) (bytes : List ℕ) where
       let n = passes_nested tops (rows_in bytes) p in
       record {
         whole = right_whole bytes (found_none _ _ a.0);
-        sound = λ k h. sound-block label size bytes k (first_none (blocks_in bytes) (block_damage label size bytes) b.0 k h);
+        sound = λ k h. sound_block label size bytes k (first_none (blocks_in bytes) (block_damage label size bytes) b.0 k h);
         passed = p;
         nested = n;
         reduced = neighbours_reduced (rows_in bytes) n c.1;
@@ -84,7 +84,7 @@ module _ (label size : ℕ) (bytes : List ℕ) where
   undamaged : Whole bytes → ((k : ℕ) → k < blocks_in bytes → Sound label size bytes k) → Nested tops (rows_in bytes) → Reduced tops (rows_in bytes) → damage_of label size bytes ≡ None
   unfolding damage_of
   undamaged w s n r = none_or _ _ (none_found _ _ (whole_right bytes w))
-      (none_or _ _ (none_first (blocks_in bytes) (block_damage label size bytes) (λ k h. block-sound label size bytes k (s k h)))
+      (none_or _ _ (none_first (blocks_in bytes) (block_damage label size bytes) (λ k h. block_sound label size bytes k (s k h)))
       (none_or _ _ (nested_undamaged (rows_in bytes) n) (reduced_undamaged (rows_in bytes) r)))
 
   -- the blocks of well-formed bytes whose decisions are of the kind

@@ -100,11 +100,11 @@ block_says : (label size : ℕ) (bytes : List ℕ) (rows : List Row) (k : ℕ) (
 unfolding block_damage
 block_says label size bytes rows k d e =
     let row : ℕ → Option Damage = λ j. found (foreign label size bytes (18 * k + j)) (Foreign (18 * k + j)) in
-    let rows-first : Option Damage = first (count_in (block_at bytes k)) row in
+    let rows_first : Option Damage = first (count_in (block_at bytes k)) row in
     let frame : Option Damage = found (not (framed bytes k)) (Frame k) in
-    elim (or_some (found (wrong_check bytes k) (Check k)) (or_else frame rows-first) d e) [
+    elim (or_some (found (wrong_check bytes k) (Check k)) (or_else frame rows_first) d e) [
       | inl s ↦ subst (λ x. Says (Some x) rows) (found_some _ _ d s).1 tt
-      | inr s ↦ elim (or_some frame rows-first d s.1) [
+      | inr s ↦ elim (or_some frame rows_first d s.1) [
         | inl t ↦ subst (λ x. Says (Some x) rows) (found_some _ _ d t).1 tt
         | inr t ↦ subst (λ x. Says (Some x) rows) (found_some _ _ d (first_some _ row d t.1).3).1 tt
       ]

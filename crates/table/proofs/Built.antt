@@ -88,13 +88,13 @@ module _ (m : List ℕ → ℕ) (rest : List ℕ) (f : ℕ) (old : List Row) whe
         ∙ ap (λ (a : List Row). old ++ a) (sym (map-append (uncut_row f) (part rest m low) (spread low high (sub_table rest m low))) ∙ ap (λ (gs : List Group). uncut f (flat gs)) (sym b.ends))
 
     -- the next values have the last group's rows, and are joined to it
-    built-same : (e : ℕ) → high + 1 ≤ e → Constant rest m (high + 1) e → sub_table rest m low ≡ sub_table rest m (high + 1) → Built m rest f old now start low e
-    built-same e h k i = record { ends = at_one e ∙ (run rest m (high + 1) e _ _ h k b.ends).0 i; shows = b.shows; begins = b.begins }
+    built_same : (e : ℕ) → high + 1 ≤ e → Constant rest m (high + 1) e → sub_table rest m low ≡ sub_table rest m (high + 1) → Built m rest f old now start low e
+    built_same e h k i = record { ends = at_one e ∙ (run rest m (high + 1) e _ _ h k b.ends).0 i; shows = b.shows; begins = b.begins }
 
     -- they have others, and are a new group
-    built-other : (e : ℕ) → high + 1 ≤ e → Constant rest m (high + 1) e → sub_table rest m low ≢ sub_table rest m (high + 1) → f < length tops → high ≤ get_or tops f 0
+    built_other : (e : ℕ) → high + 1 ≤ e → Constant rest m (high + 1) e → sub_table rest m low ≢ sub_table rest m (high + 1) → f < length tops → high ≤ get_or tops f 0
         → Built m rest f old (before low ++ map (cut f (record { low = low; high = high })) (last low) ++ last (high + 1)) (length now) (high + 1) e
-    built-other e h k n l u = record {
+    built_other e h k n l u = record {
       ends = at_one e ∙ (run rest m (high + 1) e _ _ h k b.ends).1 n ∙ ap (λ (gs : List Group). record { low = high + 1; high = e; rows = sub_table rest m (high + 1) } ∷ gs) (sym b.ends);
       shows = ap (λ (a : List Row). a ++ last (high + 1)) (closed l u);
       begins = ap length (sym (closed l u)) ∙ length-append (before low) (map (cut f (record { low = low; high = high })) (last low))
@@ -104,37 +104,37 @@ module _ (m : List ℕ → ℕ) (rest : List ℕ) (f : ℕ) (old : List Row) whe
 
     -- the parts of the rows once more rows stand behind them
     module _ (more : List Row) where
-      all-parts : now ++ more ≡ before low ++ (last low ++ more)
-      all-parts = ap (λ (a : List Row). a ++ more) b.shows ∙ append_assoc (before low) (last low) more
+      all_parts : now ++ more ≡ before low ++ (last low ++ more)
+      all_parts = ap (λ (a : List Row). a ++ more) b.shows ∙ append_assoc (before low) (last low) more
 
-      part-before : take start (now ++ more) ≡ before low
-      part-before = ap (take start) all-parts ∙ take_at (before low) (last low ++ more) start b.begins
+      part_before : take start (now ++ more) ≡ before low
+      part_before = ap (take start) all_parts ∙ take_at (before low) (last low ++ more) start b.begins
 
-      part-last : between start (length now) (now ++ more) ≡ last low
-      part-last =
+      part_last : between start (length now) (now ++ more) ≡ last low
+      part_last =
           let n : length (last low) ≡ length now - start = omega (arith, ap length b.shows, length-append (before low) (last low), b.begins) in
-          ap (λ (a : List Row). take (length now - start) a) (ap (drop start) all-parts ∙ drop_at (before low) (last low ++ more) start b.begins)
+          ap (λ (a : List Row). take (length now - start) a) (ap (drop start) all_parts ∙ drop_at (before low) (last low ++ more) start b.begins)
           ∙ take_at (last low) more (length now - start) n
 
       part_cut : (range : Range ℕ) → cut_between start (length now) f range (now ++ more) ≡ before low ++ map (cut f range) (last low) ++ more
       part_cut range = ap₂ (λ (a c : List Row). a ++ c)
-          (ap₂ (λ (a c : List Row). a ++ map (cut f range) c) part-before part-last)
+          (ap₂ (λ (a c : List Row). a ++ map (cut f range) c) part_before part_last)
           (drop_at now more (length now) refl)
 
     -- the next values' rows stand behind: where a test tells that they are the last group's, they are dropped; else it gets its range
-    pub built-next : (e : ℕ) → high + 1 ≤ e → Constant rest m (high + 1) e → f < length tops → high ≤ get_or tops f 0
+    pub built_next : (e : ℕ) → high + 1 ≤ e → Constant rest m (high + 1) e → f < length tops → high ≤ get_or tops f 0
         → (all : List Row) (end : ℕ) → all ≡ now ++ last (high + 1) → length now ≡ end
         → (r : Bool) → Decides r (between start end all ≡ drop end all)
         → (r ≡ true → Built m rest f old (take end all) start low e) × (r ≡ false → Built m rest f old (cut_between start end f (record { low = low; high = high }) all) end (high + 1) e)
-    built-next e h k l u all end i n r d = (
-      (λ t. subst (λ (a : List Row). Built m rest f old a start low e) (sym left_of) (built-same e h k (uncut_tells (f + 1) _ _ (sym last_of ∙ d.0 t ∙ next_of)))),
+    built_next e h k l u all end i n r d = (
+      (λ t. subst (λ (a : List Row). Built m rest f old a start low e) (sym left_of) (built_same e h k (uncut_tells (f + 1) _ _ (sym last_of ∙ d.0 t ∙ next_of)))),
       (λ t. subst (λ (a : List Row). Built m rest f old a end (high + 1) e) (sym cut_of)
           (subst (λ (x : ℕ). Built m rest f old (before low ++ map (cut f (record { low = low; high = high })) (last low) ++ last (high + 1)) x (high + 1) e) n
-          (built-other e h k (λ q. both_ways r t (d.1 (last_of ∙ ap (uncut (f + 1)) q ∙ sym next_of))) l u))),
+          (built_other e h k (λ q. both_ways r t (d.1 (last_of ∙ ap (uncut (f + 1)) q ∙ sym next_of))) l u))),
     )
       where
         last_of : between start end all ≡ last low
-        last_of = ap₂ (λ (a : List Row) (x : ℕ). between start x a) i (sym n) ∙ part-last (last (high + 1))
+        last_of = ap₂ (λ (a : List Row) (x : ℕ). between start x a) i (sym n) ∙ part_last (last (high + 1))
 
         next_of : drop end all ≡ last (high + 1)
         next_of = ap₂ (λ (a : List Row) (x : ℕ). drop x a) i (sym n) ∙ drop_at now (last (high + 1)) (length now) refl
@@ -146,16 +146,16 @@ module _ (m : List ℕ → ℕ) (rest : List ℕ) (f : ℕ) (old : List Row) whe
         cut_of = ap₂ (λ (a : List Row) (x : ℕ). cut_between start x f (record { low = low; high = high }) a) i (sym n) ∙ part_cut (last (high + 1)) (record { low = low; high = high })
 
     -- at the top the table is complete, once the last group has its range
-    pub built-whole : f < length tops → high ≡ get_or tops f 0 → (end : ℕ) → length now ≡ end
+    pub built_whole : f < length tops → high ≡ get_or tops f 0 → (end : ℕ) → length now ≡ end
         → cut_between start end f (record { low = low; high = high }) now ≡ old ++ uncut f (table (get_or tops f 0 ∷ rest) m)
-    built-whole l e end n =
+    built_whole l e end n =
         let range : Range ℕ = record { low = low; high = high } in
         ap₂ (λ (a : List Row) (x : ℕ). cut_between start x f range a) (sym (append-nil now)) (sym n) ∙ part_cut [] range ∙ append-nil (before low ++ map (cut f range) (last low))
         ∙ closed l (omega arith) ∙ ap (λ (t : List Row). old ++ uncut f t) (ap (part rest m) (ap (λ n. n + 1) e ∙ add-one (get_or tops f 0)) ∙ sym (whole_part (get_or tops f 0) rest m))
 
     -- and before that the table has no fewer rows
-    pub built-counts : f < length tops → high ≤ get_or tops f 0 → length now ≤ length old + length (table (get_or tops f 0 ∷ rest) m)
-    built-counts l u = omega (
+    pub built_counts : f < length tops → high ≤ get_or tops f 0 → length now ≤ length old + length (table (get_or tops f 0 ∷ rest) m)
+    built_counts l u = omega (
       arith,
       ap length b.shows,
       length-append (before low) (last low),
@@ -176,5 +176,5 @@ module _ (m : List ℕ → ℕ) (rest : List ℕ) (f : ℕ) (old : List Row) whe
       → length all ≤ length old + length (table (get_or tops f 0 ∷ rest) m)
   new_counts now start low high b l u all end i n r d t =
       let one : Constant rest m (high + 1) (high + 1) = λ w x y q _. let k : w ≡ high + 1 = omega arith in ap (λ v. m (v ∷ q)) k in
-      let new = (built-next now start low high b (high + 1) (omega arith) one l (omega arith) all end i n r d).1 t in
-      omega (arith, built-counts _ _ _ _ new l u, ap length new.shows, length-append (before (high + 1)) (last (high + 1)), new.begins, ap length i, length-append now (last (high + 1)))
+      let new = (built_next now start low high b (high + 1) (omega arith) one l (omega arith) all end i n r d).1 t in
+      omega (arith, built_counts _ _ _ _ new l u, ap length new.shows, length-append (before (high + 1)) (last (high + 1)), new.begins, ap length i, length-append now (last (high + 1)))

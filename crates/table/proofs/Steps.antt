@@ -14,7 +14,7 @@ use Rattle.theory.proofs.Runs.{Constant, sub_table_counts}
 use Rattle.table.specs.declared.row.Row as code
 use Rattle.table.specs.Rows.{plain, view}
 use Rattle.table.specs.Parts.{table_from, whole, uncut, cut_between}
-use Rattle.table.proofs.Built.{Built, built_first, built-next, built-whole, new_counts}
+use Rattle.table.proofs.Built.{Built, built_first, built_next, built_whole, new_counts}
 
 -- before the first field there is nothing to cut
 pub uncut_none : (t : List Row) → uncut 0 t ≡ t
@@ -64,35 +64,35 @@ module _ (m : List ℕ → ℕ) (h : Field) (f : ℕ) (e : place h ≡ f) (at : 
         let k : min v (get_or tops f 0) ≡ v = omega (arith, most) in
         has.1 ∙ ap (λ n. set (values at) n (min v (get_or tops n 0))) e ∙ ap (set (values at) f) k
 
-    same-before : take f (values next) ≡ take f (values at)
-    same-before = ap (take f) is_set ∙ take-set (values at) f v
+    same_before : take f (values next) ≡ take f (values at)
+    same_before = ap (take f) is_set ∙ take-set (values at) f v
 
-    value-here : get_or (values next) f 0 ≡ v
-    value-here = ap (λ a. get_or a f 0) is_set ∙ get_or-set_same (values at) f v 0 below
+    value_here : get_or (values next) f 0 ≡ v
+    value_here = ap (λ a. get_or a f 0) is_set ∙ get_or-set_same (values at) f v 0 below
 
     -- what is left of `next` is what is left of `at` at the value v
-    cell-table : table_from m (f + 1) (values next) ≡ sub_table later left v
-    cell-table =
+    cell_table : table_from m (f + 1) (values next) ≡ sub_table later left v
+    cell_table =
         let k = ap (take (f + 1)) is_set ∙ take_more_set (values at) f v below in
         λ i. table later (λ q. m ((ap (λ a. a ++ q) k ∙ append_assoc (take f (values at)) (v ∷ []) q) i))
 
     -- its table has no more rows
-    pub cell-counts : length (table_from m (f + 1) (values next)) ≤ length (table_from m f (values at))
-    cell-counts = omega (arith, ap length cell-table, ap (λ a. length (table a left)) (drop_more tops f 0 below), sub_table_counts (get_or tops f 0) later left v most)
+    pub cell_counts : length (table_from m (f + 1) (values next)) ≤ length (table_from m f (values at))
+    cell_counts = omega (arith, ap length cell_table, ap (λ a. length (table a left)) (drop_more tops f 0 below), sub_table_counts (get_or tops f 0) later left v most)
 
     module _ (r : ℕ) (edge : Edge m (values next) (place h) r) where
       edge_here : Edge m (values next) f r
       edge_here = subst (λ n. Edge m (values next) n r) e edge
 
-      pub edge-from : v ≤ r
-      edge-from = omega (arith, value-here, edge_here.from)
+      pub edge_from : v ≤ r
+      edge_from = omega (arith, value_here, edge_here.from)
 
-      edge-constant : Constant later left v r
+      edge_constant : Constant later left v r
       unfolding Alike
-      edge-constant w l u q i =
-          ap (λ a. m (a ++ (w ∷ q))) (sym same-before)
-          ∙ edge_here.alike w v q (subst (λ n. Within (drop n tops) q) (add-one f) i) (omega (arith, value-here)) u (omega (arith, value-here)) (omega (arith, value-here, edge-from))
-          ∙ ap (λ a. m (a ++ (v ∷ q))) same-before
+      edge_constant w l u q i =
+          ap (λ a. m (a ++ (w ∷ q))) (sym same_before)
+          ∙ edge_here.alike w v q (subst (λ n. Within (drop n tops) q) (add-one f) i) (omega (arith, value_here)) u (omega (arith, value_here)) (omega (arith, value_here, edge_from))
+          ∙ ap (λ a. m (a ++ (v ∷ q))) same_before
 
   -- the rows of the values 0..r are there
   pub first_step : (next : Packet) (has : Has next 0) (r : ℕ) → Edge m (values next) (place h) r
@@ -100,31 +100,31 @@ module _ (m : List ℕ → ℕ) (h : Field) (f : ℕ) (e : place h ≡ f) (at : 
       → Built left later f (take base now) now base 0 r
   first_step next has r edge was now base i n =
       subst (λ (x : List Row). Built left later f x now base 0 r) (sym (ap (take base) i ∙ take_at was (uncut (f + 1) (table_from m (f + 1) (values next))) base n))
-      (built_first left later f was now base r (edge-constant next 0 has r edge) (i ∙ ap (λ (x : List Row). was ++ uncut (f + 1) x) (cell-table next 0 has)) n)
+      (built_first left later f was now base r (edge_constant next 0 has r edge) (i ∙ ap (λ (x : List Row). was ++ uncut (f + 1) x) (cell_table next 0 has)) n)
 
   module _ (old now : List Row) (start low high : ℕ) (b : Built left later f old now start low high) where
     -- the rows of the next value stand behind them, and a test tells whether they are the last group's
     module _ (next : Packet) (has : Has next (high + 1)) (all : List Row) (i : all ≡ now ++ uncut (f + 1) (table_from m (f + 1) (values next)))
         (end : ℕ) (n : length now ≡ end) (same : Bool) (d : Decides same (between start end all ≡ drop end all)) where
-      with-next : all ≡ now ++ uncut (f + 1) (sub_table later left (high + 1))
-      with-next = i ∙ ap (λ (x : List Row). now ++ uncut (f + 1) x) (cell-table next (high + 1) has)
+      with_next : all ≡ now ++ uncut (f + 1) (sub_table later left (high + 1))
+      with_next = i ∙ ap (λ (x : List Row). now ++ uncut (f + 1) x) (cell_table next (high + 1) has)
 
-      pub next-step : (r : ℕ) → Edge m (values next) (place h) r
+      pub next_step : (r : ℕ) → Edge m (values next) (place h) r
           → (same ≡ true → Built left later f old (take end all) start low r)
           × (same ≡ false → Built left later f old (cut_between start end (place h) (record { low = low; high = high }) all) end (high + 1) r)
-      next-step r edge =
-          let two = built-next left later f old now start low high b r (edge-from next (high + 1) has r edge) (edge-constant next (high + 1) has r edge) below
-          (omega (arith, most next (high + 1) has)) all end with-next n same d in
+      next_step r edge =
+          let two = built_next left later f old now start low high b r (edge_from next (high + 1) has r edge) (edge_constant next (high + 1) has r edge) below
+          (omega (arith, most next (high + 1) has)) all end with_next n same d in
           (two.0, λ t. subst (λ x. Built left later f old (cut_between start end x (record { low = low; high = high }) all) end (high + 1) r) (sym e) (two.1 t))
 
       -- so many rows the table has, if they are not
-      pub all-count : same ≡ false → length all ≤ length old + length (table_from m f (values at))
-      all-count t = omega (arith, new_counts left later f old now start low high b below (most next (high + 1) has) all end with-next n same d t, ap (λ a. length (table a left)) (drop_more tops f 0 below))
+      pub all_count : same ≡ false → length all ≤ length old + length (table_from m f (values at))
+      all_count t = omega (arith, new_counts left later f old now start low high b below (most next (high + 1) has) all end with_next n same d t, ap (λ a. length (table a left)) (drop_more tops f 0 below))
 
     -- at the top the table is complete, once the last group has its range
     pub last_step : high ≡ get_or tops (place h) 0 → (end : ℕ) → length now ≡ end
         → cut_between start end (place h) (record { low = low; high = high }) now ≡ old ++ uncut f (table_from m f (values at))
     last_step t end n =
         ap (λ x. cut_between start end x (record { low = low; high = high }) now) e
-        ∙ built-whole left later f old now start low high b below (t ∙ ap (λ x. get_or tops x 0) e) end n
+        ∙ built_whole left later f old now start low high b below (t ∙ ap (λ x. get_or tops x 0) e) end n
         ∙ ap (λ (a : List ℕ). old ++ uncut f (table a left)) (sym (drop_more tops f 0 below))

@@ -20,11 +20,11 @@ module _ {T E : Type 0} where
 
   -- what follows a part that is written
   pub appended_on : (r : Result T E) (before first mid text whole after : List ℕ) → mid ≡ before ++ first → whole ≡ first ++ text → Appended r mid text after → Appended r before whole after
-  appended_on r before first mid text whole after m same e = appended_as r before (first ++ text) whole after same (at-answer r e)
+  appended_on r before first mid text whole after m same e = appended_as r before (first ++ text) whole after same (at_answer r e)
     where
-      at-answer : (r : Result T E) → Appended r mid text after → Appended r before (first ++ text) after
-      at-answer (Ok x) e = e ∙ ap (λ xs. xs ++ text) m ∙ append_assoc before first text
-      at-answer (Err x) e = (first ++ e.0, e.1 ∙ ap (λ xs. xs ++ e.0) m ∙ append_assoc before first e.0)
+      at_answer : (r : Result T E) → Appended r mid text after → Appended r before (first ++ text) after
+      at_answer (Ok x) e = e ∙ ap (λ xs. xs ++ text) m ∙ append_assoc before first text
+      at_answer (Err x) e = (first ++ e.0, e.1 ∙ ap (λ xs. xs ++ e.0) m ∙ append_assoc before first e.0)
 
   -- memory runs out behind a part that is written
   pub appended_break : (r : Result T E) (before first mid whole after : List ℕ) → is_err r ≡ true → mid ≡ before ++ first → (rest : List ℕ) × (after ≡ mid ++ rest) → Appended r before whole after

@@ -102,7 +102,7 @@ module _ (number : ℕ) (rules : List Rule) (count : ℕ) (same : length rules �
   counted_stop (Ok (Some rule)) fault is = at_room (leb 64 count) (leb 64 (length rules)) (ap (leb 64) same) is
     where
       at_room : (b d : Bool) → d ≡ b → Err fault ≡ cond b (Err (Full number)) (Ok (count + 1)) → Err fault ≡ (cond d (ended (Err (Full number)) rules) (ended (Ok tt) (rules ++ (rule ∷ [])))).answer
-      at_room true true e is = let same-fault : fault ≡ Full number = cc in ap Err same-fault
+      at_room true true e is = let same_fault : fault ≡ Full number = cc in ap Err same_fault
       at_room true false e is = let z : ◌≡◌ {A = ℕ} 0 1 = cc in absurd (omega arith)
       at_room false d e is = let z : ◌≡◌ {A = ℕ} 0 1 = cc in absurd (omega arith)
 
@@ -151,23 +151,23 @@ module _ (read : List ℕ → Option ℕ) (p : List ℕ) where
   lines_kept : (number : ℕ) (ls : List (List ℕ)) (rules : List Rule) (rule : Rule) → first_rule rules p ≡ Some rule → first_rule (lines_from read number ls rules).rules p ≡ Some rule
   unfolding lines_from
   lines_kept number [] rules rule is = is
-  lines_kept number (l ∷ ls) rules rule is = at-line (line_of read l) (λ rs. lines_kept (number + 1) ls rs rule)
+  lines_kept number (l ∷ ls) rules rule is = at_line (line_of read l) (λ rs. lines_kept (number + 1) ls rs rule)
     where
       at_room : (b : Bool) (other : Rule) → ((rs : List Rule) → first_rule rs p ≡ Some rule → first_rule (lines_from read (number + 1) ls rs).rules p ≡ Some rule)
           → first_rule (on number ls (cond b (ended (Err (Full number)) rules) (ended (Ok tt) (rules ++ (other ∷ []))))).rules p ≡ Some rule
       at_room true other later = is
       at_room false other later = later (rules ++ (other ∷ [])) (first_kept p rules (other ∷ []) rule is)
 
-      at-line : (said : Result (Option Rule) LineFault) → ((rs : List Rule) → first_rule rs p ≡ Some rule → first_rule (lines_from read (number + 1) ls rs).rules p ≡ Some rule)
+      at_line : (said : Result (Option Rule) LineFault) → ((rs : List Rule) → first_rule rs p ≡ Some rule → first_rule (lines_from read (number + 1) ls rs).rules p ≡ Some rule)
           → first_rule (on number ls (added number rules said)).rules p ≡ Some rule
-      at-line (Err fault) later = is
-      at-line (Ok None) later = later rules is
-      at-line (Ok (Some other)) later = at_room (leb 64 (length rules)) other later
+      at_line (Err fault) later = is
+      at_line (Ok None) later = later rules is
+      at_line (Ok (Some other)) later = at_room (leb 64 (length rules)) other later
 
   pub lines_decide : (number start : ℕ) (ls : List (List ℕ)) (rules : List Rule) → (lines_from read number ls rules).answer ≡ Ok tt → first_rule rules p ≡ None → Outcome (first_line read p start ls) (lines_from read number ls rules).rules
   unfolding lines_from first_line
   lines_decide number start [] rules well is = is
-  lines_decide number start (l ∷ ls) rules well is = at-line (line_of read l) refl well (lines_decide (number + 1) (start + length l + 1) ls)
+  lines_decide number start (l ∷ ls) rules well is = at_line (line_of read l) refl well (lines_decide (number + 1) (start + length l + 1) ls)
     where
       at_held : (b : Bool) (rule : Rule) → Ok (Some rule) ≡ line_of read l → first_rule (rules ++ (rule ∷ [])) p ≡ cond b (Some rule) None
           → (first_rule (rules ++ (rule ∷ [])) p ≡ None → Outcome (first_line read p (start + length l + 1) ls) (lines_from read (number + 1) ls (rules ++ (rule ∷ []))).rules)
@@ -181,12 +181,12 @@ module _ (read : List ℕ → Option ℕ) (p : List ℕ) where
       at_room true rule says well later = let z : ◌≡◌ {A = ℕ} 0 1 = cc in absurd (omega arith)
       at_room false rule says well later = at_held (holds (ranges rule.region) p) rule says (first_behind p rules rule is) (later (rules ++ (rule ∷ [])) well)
 
-      at-line : (said : Result (Option Rule) LineFault) → said ≡ line_of read l → (on number ls (added number rules said)).answer ≡ Ok tt
+      at_line : (said : Result (Option Rule) LineFault) → said ≡ line_of read l → (on number ls (added number rules said)).answer ≡ Ok tt
           → ((rs : List Rule) → (lines_from read (number + 1) ls rs).answer ≡ Ok tt → first_rule rs p ≡ None → Outcome (first_line read p (start + length l + 1) ls) (lines_from read (number + 1) ls rs).rules)
           → Outcome (cond (said_holds p said) (Some (record { start = start; line = l })) (first_line read p (start + length l + 1) ls)) (on number ls (added number rules said)).rules
-      at-line (Err fault) says well later = let z : ◌≡◌ {A = ℕ} 0 1 = cc in absurd (omega arith)
-      at-line (Ok None) says well later = later rules well is
-      at-line (Ok (Some rule)) says well later = at_room (leb 64 (length rules)) rule says well later
+      at_line (Err fault) says well later = let z : ◌≡◌ {A = ℕ} 0 1 = cc in absurd (omega arith)
+      at_line (Ok None) says well later = later rules well is
+      at_line (Ok (Some rule)) says well later = at_room (leb 64 (length rules)) rule says well later
 
 -- the decision of the rule that decides is one of the kind, and not silent
 module _ (count silent : ℕ) (spelling : ℕ → List ℕ) (p : List ℕ) (rules : List Rule) where

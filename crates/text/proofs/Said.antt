@@ -37,14 +37,14 @@ carried_ok up (Err fault) x e = let z : ◌≡◌ {A = ℕ} 0 1 = cc in absurd (
 pub read_known : (n silent : ℕ) (spelling : ℕ → List ℕ) (w : List ℕ) (d : ℕ) → Some d ≡ read_word n silent spelling w → (d < n) × (eqb d silent ≡ false)
 unfolding read_word
 read_known zero silent spelling w d e = let z : ◌≡◌ {A = ℕ} 0 1 = cc in absurd (omega arith)
-read_known (suc n) silent spelling w d e = at-word (not (eqb n silent) && bytes_eq (spelling n) w) refl e (read_known n silent spelling w d)
+read_known (suc n) silent spelling w d e = at_word (not (eqb n silent) && bytes_eq (spelling n) w) refl e (read_known n silent spelling w d)
   where
-    at-word : (b : Bool) → (not (eqb n silent) && bytes_eq (spelling n) w) ≡ b → Some d ≡ cond b (Some n) (read_word n silent spelling w)
+    at_word : (b : Bool) → (not (eqb n silent) && bytes_eq (spelling n) w) ≡ b → Some d ≡ cond b (Some n) (read_word n silent spelling w)
         → (Some d ≡ read_word n silent spelling w → (d < n) × (eqb d silent ≡ false)) → (d < suc n) × (eqb d silent ≡ false)
-    at-word true is e later =
+    at_word true is e later =
         let same : n ≡ d = cc in
         (omega arith, subst (λ k. eqb k silent ≡ false) same (not-true (eqb n silent) (and_parts (not (eqb n silent)) (bytes_eq (spelling n) w) is).0))
-    at-word false is e later = let known = later e in (omega (arith, known.0), known.1)
+    at_word false is e later = let known = later e in (omega (arith, known.0), known.1)
 
 -- no range that words write is reversed
 ranges_forward : (fs : List Field) (column : ℕ) (ws : List (List ℕ)) (rs : List (Range ℕ)) → Ok rs ≡ ranges_from fs column ws → any_reversed rs ≡ false
@@ -80,25 +80,25 @@ rule_fit read (w ∷ ws) rule e =
     let region = then_ok (region_from (1 + length w + 1) ws) (λ region. Ok (record { region = region; decision = decision.0 })) rule decision.2 in
     let rs = then_ok (ranges_from fields (1 + length w + 1) ws) (λ ranges. Ok (region_of ranges)) region.0 region.1 in
     let same : record { region = region.0; decision = decision.0 } ≡ rule = (let last = region.2 in cc) in
-    let where-from : region_of rs.0 ≡ region.0 = (let last = rs.2 in cc) in
+    let where_from : region_of rs.0 ≡ region.0 = (let last = rs.2 in cc) in
     subst (Fit read) same (record {
-      forward = subst (λ g. any_reversed (ranges g) ≡ false) where-from (region_forward rs.0 (ranges_forward fields (1 + length w + 1) ws rs.0 rs.1));
+      forward = subst (λ g. any_reversed (ranges g) ≡ false) where_from (region_forward rs.0 (ranges_forward fields (1 + length w + 1) ws rs.0 rs.1));
       word = w;
-      spoken = at-decision (read w) decision.0 decision.1;
+      spoken = at_decision (read w) decision.0 decision.1;
     })
   where
-    at-decision : (r : Option ℕ) (d : ℕ) → Ok d ≡ decision_of r → Some d ≡ r
-    at-decision None d e = let z : ◌≡◌ {A = ℕ} 0 1 = cc in absurd (omega arith)
-    at-decision (Some x) d e = let same : d ≡ x = cc in ap Some same
+    at_decision : (r : Option ℕ) (d : ℕ) → Ok d ≡ decision_of r → Some d ≡ r
+    at_decision None d e = let z : ◌≡◌ {A = ℕ} 0 1 = cc in absurd (omega arith)
+    at_decision (Some x) d e = let same : d ≡ x = cc in ap Some same
 
 pub line_fit : (read : List ℕ → Option ℕ) (line : List ℕ) (rule : Rule) → Ok (Some rule) ≡ line_of read line → Fit read rule
 line_fit read line rule e =
     let letters = then_ok (carried Letter (letters_of line)) (λ _. cond (skipped line) (Ok None) (then (words_of line) (λ _. then (rule_of read (pieces 32 line)) (λ said. Ok (Some said))))) (Some rule) e in
-    at-skipped (skipped line) letters.2
+    at_skipped (skipped line) letters.2
   where
-    at-skipped : (b : Bool) → Ok (Some rule) ≡ cond b (Ok None) (then (words_of line) (λ _. then (rule_of read (pieces 32 line)) (λ said. Ok (Some said)))) → Fit read rule
-    at-skipped true e = let z : ◌≡◌ {A = ℕ} 0 1 = cc in absurd (omega arith)
-    at-skipped false e =
+    at_skipped : (b : Bool) → Ok (Some rule) ≡ cond b (Ok None) (then (words_of line) (λ _. then (rule_of read (pieces 32 line)) (λ said. Ok (Some said)))) → Fit read rule
+    at_skipped true e = let z : ◌≡◌ {A = ℕ} 0 1 = cc in absurd (omega arith)
+    at_skipped false e =
         let words = then_ok (words_of line) (λ _. then (rule_of read (pieces 32 line)) (λ said. Ok (Some said))) (Some rule) e in
         let said = then_ok (rule_of read (pieces 32 line)) (λ said. Ok (Some said)) (Some rule) words.2 in
         let same : said.0 ≡ rule = (let last = said.2 in cc) in

@@ -64,19 +64,19 @@ module _ (field : Field) where
 
   at_ends : (column : ℕ) (ends : Option (Range ℕ)) (r : Range ℕ) → Inside ends → Ok r ≡ judged column ends → Sound top r
   at_ends column None r inside e = let z : ◌≡◌ {A = ℕ} 0 1 = cc in absurd (omega arith)
-  at_ends column (Some range) r inside e = at-order (reversed range) refl e
+  at_ends column (Some range) r inside e = at_order (reversed range) refl e
     where
-      at-order : (b : Bool) → b ≡ reversed range → Ok r ≡ cond b (Err (Reversed column)) (Ok range) → Sound top r
-      at-order true is e = let z : ◌≡◌ {A = ℕ} 0 1 = cc in absurd (omega arith)
-      at-order false is e = let same : range ≡ r = cc in subst (Sound top) same (record { low_within = inside.0; high_within = inside.1; forward = sym is })
+      at_order : (b : Bool) → b ≡ reversed range → Ok r ≡ cond b (Err (Reversed column)) (Ok range) → Sound top r
+      at_order true is e = let z : ◌≡◌ {A = ℕ} 0 1 = cc in absurd (omega arith)
+      at_order false is e = let same : range ≡ r = cc in subst (Sound top) same (record { low_within = inside.0; high_within = inside.1; forward = sym is })
 
   pub range_sound : (column : ℕ) (word : List ℕ) (r : Range ℕ) → Ok r ≡ range_of field column word → Sound top r
   unfolding range_of
-  range_sound column word r e = at-star (bytes_eq word (42 ∷ [])) e
+  range_sound column word r e = at_star (bytes_eq word (42 ∷ [])) e
     where
-      at-star : (b : Bool) → Ok r ≡ cond b (Ok (record { low = 0; high = top })) (written_range field column word) → Sound top r
-      at-star true e = let same : record { low = 0; high = top } ≡ r = cc in subst (Sound top) same (record { low_within = omega arith; high_within = omega arith; forward = le-ltb top 0 (omega arith) })
-      at-star false e = at_ends column (ends_of (value_of field) (pieces 45 word)) r (ends_inside (pieces 45 word)) e
+      at_star : (b : Bool) → Ok r ≡ cond b (Ok (record { low = 0; high = top })) (written_range field column word) → Sound top r
+      at_star true e = let same : record { low = 0; high = top } ≡ r = cc in subst (Sound top) same (record { low_within = omega arith; high_within = omega arith; forward = le-ltb top 0 (omega arith) })
+      at_star false e = at_ends column (ends_of (value_of field) (pieces 45 word)) r (ends_inside (pieces 45 word)) e
 
   -- ends within the field are not brought down
   pub clamped_same : (r : Range ℕ) → Sound top r → clamped top r ≡ r

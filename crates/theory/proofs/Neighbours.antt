@@ -141,15 +141,15 @@ to_calm rest (g ∷ h ∷ gs) c = and_from _ _ (to_calm rest (h ∷ gs) (c.0.1, 
 calm_reduced : (tops : List ℕ) (rows : List Row) → Nested tops rows → calm (alike_neighbours tops rows) none rows ≡ true → Reduced tops rows
 calm_reduced [] rows n c = n
 calm_reduced (top ∷ rest) rows n c =
-    let some-rows = each_map (λ g. Nested rest g.rows) (λ g. 0 < length g.rows) (λ g. nested_some rest g.rows) n.0 n.3 in
-    let d = from_calm rest n.0 (sym (flat_calm top rest (flat n.0) (suc top) n.0 n.2 some-rows (λ v q h. refl)) ∙ (rw n.1 at c)) in
+    let some_rows = each_map (λ g. Nested rest g.rows) (λ g. 0 < length g.rows) (λ g. nested_some rest g.rows) n.0 n.3 in
+    let d = from_calm rest n.0 (sym (flat_calm top rest (flat n.0) (suc top) n.0 n.2 some_rows (λ v q h. refl)) ∙ (rw n.1 at c)) in
     (n.0, n.1, n.2, d.0, each_map _ _ (λ g e. calm_reduced rest g.rows e.0 e.1) n.0 (each_both _ _ n.0 n.3 d.1))
 
 reduced_calm : (tops : List ℕ) (rows : List Row) → Reduced tops rows → calm (alike_neighbours tops rows) none rows ≡ true
 reduced_calm [] rows r = rw r.1
 reduced_calm (top ∷ rest) rows r =
-    let some-rows = each_map (λ g. Reduced rest g.rows) (λ g. 0 < length g.rows) (λ g e. nested_some rest g.rows (reduced_nested rest g.rows e)) r.0 r.4 in
-    rw r.1 (flat_calm top rest (flat r.0) (suc top) r.0 r.2 some-rows (λ v q h. refl) ∙ to_calm rest r.0 (r.3, each_map _ _ (λ g. reduced_calm rest g.rows) r.0 r.4))
+    let some_rows = each_map (λ g. Reduced rest g.rows) (λ g. 0 < length g.rows) (λ g e. nested_some rest g.rows (reduced_nested rest g.rows e)) r.0 r.4 in
+    rw r.1 (flat_calm top rest (flat r.0) (suc top) r.0 r.2 some_rows (λ v q h. refl) ∙ to_calm rest r.0 (r.3, each_map _ _ (λ g. reduced_calm rest g.rows) r.0 r.4))
 
 calm-place : (P : List (Range ℕ) → List (Range ℕ) → Bool) (o : Option (List (Range ℕ))) (rows : List Row) → calm P o rows ≡ true → (i : ℕ) → suc i < length rows → P (ranges_at rows i) (ranges_at rows (suc i)) ≡ false
 calm-place P o [] c i h = absurd (omega arith)

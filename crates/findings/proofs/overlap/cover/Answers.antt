@@ -1,6 +1,6 @@
 use Rattle.std.proofs.Common.{◌+◌, ◌<◌, ◌≤◌, length, sym, ap, ◌∙◌, inl, inr, arith}
 use Rattle.std.proofs.lemmas.Bool.Decides.{Decides-at}
-use Rattle.findings.proofs.Sided.{covers_from, covers-reversed, covers_more, covers_low, covers_high, covers_end}
+use Rattle.findings.proofs.Sided.{covers_from, covers_reversed, covers_more, covers_low, covers_high, covers_end}
 use Rattle.findings.proofs.Overlapped.{covers_means}
 use Rattle.findings.proofs.overlap.cover.Goals as goal
 use Rattle.findings.proofs.overlap.cover.Goals.{then-one-other, else-one-other+else-other-one}
@@ -9,7 +9,7 @@ pub returns-then-is_reversed : goal.returns-then-is_reversed
 returns-then-is_reversed c =
     let ha : c.loop-i.i < length c.args.wide.now = omega arith in
     let hb : c.loop-i.i < length c.args.narrow.now = omega arith in
-    let test = sym (c.loop-i.invariant ∙ covers-reversed _ _ _ _ ha hb _ c.if-is_reversed.ensures) in
+    let test = sym (c.loop-i.invariant ∙ covers_reversed _ _ _ _ ha hb _ c.if-is_reversed.ensures) in
     record { test = test; packets = Decides-at _ _ test (covers_means _ _ c.requires.fit) }
 
 pub loop-i-preserved : goal.loop-i-preserved

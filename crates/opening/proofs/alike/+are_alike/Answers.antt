@@ -4,7 +4,7 @@ use Rattle.theory.specs.Tables.{Nested}
 use Rattle.theory.proofs.Steps.{passes_nested}
 use Rattle.blocks.specs.Reading.{rows_in}
 use Rattle.opening.specs.Searching.{HoldsNested}
-use Rattle.opening.proofs.Walk.{Agrees, within_set, at_leaf, all-agree, not_alike, agree-more, end-from}
+use Rattle.opening.proofs.Walk.{Agrees, within_set, at_leaf, all_agree, not_alike, agree_more, end_from}
 use Rattle.opening.proofs.alike.+are_alike.Goals as goal
 
 nested : (bytes : List ℕ) (rows : ℕ) → HoldsNested bytes rows → Nested tops (rows_in bytes)
@@ -61,18 +61,18 @@ returns-then-end-top t c =
     let is = c.min-end.ensures ∙ ap₂ min c.row_end.ensures c.row_end-in-loop-left.ensures in
     let most = ap (λ (a : List ℕ). get_or a f 0) c.to_array.ensures.value in
     let n = nested c.args.bytes.now c.args.rows c.requires.0 in
-    let ends = end-from rows f c.args.left c.args.right c.if-field-ge-COUNT.false n c.requires.1.0 c.requires.1.1 c.loop-left.value c.loop-left.invariant.0 c.with_value-first.result c.with_value-second.result c.with_value-first.ensures c.with_value-second.ensures c.min-end.result is in
-    let more = agree-more rows f c.args.left c.args.right c.if-field-ge-COUNT.false n c.requires.1.0 c.requires.1.1 c.loop-left.value c.loop-left.invariant.0 c.with_value-first.result c.with_value-second.result c.with_value-first.ensures c.with_value-second.ensures
+    let ends = end_from rows f c.args.left c.args.right c.if-field-ge-COUNT.false n c.requires.1.0 c.requires.1.1 c.loop-left.value c.loop-left.invariant.0 c.with_value-first.result c.with_value-second.result c.with_value-first.ensures c.with_value-second.ensures c.min-end.result is in
+    let more = agree_more rows f c.args.left c.args.right c.if-field-ge-COUNT.false n c.requires.1.0 c.requires.1.1 c.loop-left.value c.loop-left.invariant.0 c.with_value-first.result c.with_value-second.result c.with_value-first.ensures c.with_value-second.ensures
     c.loop-left.invariant.1 (sym c.if-not-are_alike.ensures) c.min-end.result is in
     let last : suc c.min-end.result ≡ suc (get_or tops f 0) = omega (arith, ends.1, most, c.if-end-top.true) in
-    sym (all-agree rows f c.args.left c.args.right c.if-field-ge-COUNT.false (subst (Agrees rows f c.args.left c.args.right) last more))
+    sym (all_agree rows f c.args.left c.args.right c.if-field-ge-COUNT.false (subst (Agrees rows f c.args.left c.args.right) last more))
 
 pub loop-left-smaller : goal.loop-left-smaller
 loop-left-smaller t c =
     let rows = rows_in c.args.bytes.now in
     let is = c.min-end.ensures ∙ ap₂ min c.row_end.ensures c.row_end-in-loop-left.ensures in
     let most = ap (λ (a : List ℕ). get_or a c.args.field 0) c.to_array.ensures.value in
-    let ends = end-from rows c.args.field c.args.left c.args.right c.if-field-ge-COUNT.false (nested c.args.bytes.now c.args.rows c.requires.0) c.requires.1.0 c.requires.1.1 c.loop-left.value c.loop-left.invariant.0 c.with_value-first.result c.with_value-second.result
+    let ends = end_from rows c.args.field c.args.left c.args.right c.if-field-ge-COUNT.false (nested c.args.bytes.now c.args.rows c.requires.0) c.requires.1.0 c.requires.1.1 c.loop-left.value c.loop-left.invariant.0 c.with_value-first.result c.with_value-second.result
     c.with_value-first.ensures c.with_value-second.ensures c.min-end.result is in
     omega (arith, ends.0, most, c.if-end-top.false)
 
@@ -82,6 +82,6 @@ loop-left-preserved t c =
     let f = c.args.field in
     let is = c.min-end.ensures ∙ ap₂ min c.row_end.ensures c.row_end-in-loop-left.ensures in
     let most = ap (λ (a : List ℕ). get_or a f 0) c.to_array.ensures.value in
-    let more = agree-more rows f c.args.left c.args.right c.if-field-ge-COUNT.false (nested c.args.bytes.now c.args.rows c.requires.0) c.requires.1.0 c.requires.1.1 c.loop-left.value c.loop-left.invariant.0 c.with_value-first.result c.with_value-second.result
+    let more = agree_more rows f c.args.left c.args.right c.if-field-ge-COUNT.false (nested c.args.bytes.now c.args.rows c.requires.0) c.requires.1.0 c.requires.1.1 c.loop-left.value c.loop-left.invariant.0 c.with_value-first.result c.with_value-second.result
     c.with_value-first.ensures c.with_value-second.ensures c.loop-left.invariant.1 (sym c.if-not-are_alike.ensures) c.min-end.result is in
     (omega (arith, most, c.if-end-top.false), subst (Agrees rows f c.args.left c.args.right) (sym (add-one c.min-end.result)) more)

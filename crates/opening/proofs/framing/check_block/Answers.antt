@@ -25,17 +25,17 @@ module _ (label size : ℕ) (bytes : List ℕ) (k : ℕ) where
 -- what is read in the block's bytes tells of the block
 module _ (bytes : List ℕ) (k : ℕ) (block : List ℕ) (is : block ≡ block_at bytes k) where
   module _ (check sum : ℕ) (c : check ≡ check_in block) (s : sum ≡ check_sum (take 508 block)) where
-    check-is : check ≡ check_in (block_at bytes k)
-    check-is = c ∙ ap check_in is
+    check_is : check ≡ check_in (block_at bytes k)
+    check_is = c ∙ ap check_in is
 
     sum_is : sum ≡ check_sum (take 508 (block_at bytes k))
     sum_is = s ∙ ap (λ (b : List ℕ). check_sum (take 508 b)) is
 
-    check-wrong : (check ≡ sum → ⊥) → wrong_check bytes k ≡ true
-    check-wrong h = ap not (ne_eqb _ _ (λ e. h (check-is ∙ e ∙ sym sum_is)))
+    check_wrong : (check ≡ sum → ⊥) → wrong_check bytes k ≡ true
+    check_wrong h = ap not (ne_eqb _ _ (λ e. h (check_is ∙ e ∙ sym sum_is)))
 
-    check-right : check ≡ sum → wrong_check bytes k ≡ false
-    check-right e = ap not (eq-eqb _ _ (sym check-is ∙ e ∙ sum_is))
+    check_right : check ≡ sum → wrong_check bytes k ≡ false
+    check_right e = ap not (eq-eqb _ _ (sym check_is ∙ e ∙ sum_is))
 
   framed_is : (count : ℕ) → count ≡ count_in block → (t : Bool) → t ≡ (is_count (leb (blocks_in bytes) (k + 1)) count && eqb (number_in block) k && all_zero (unused_in block)) → framed bytes k ≡ t
   framed_is count n t e =
@@ -45,18 +45,18 @@ module _ (bytes : List ℕ) (k : ℕ) (block : List ℕ) (is : block ≡ block_a
 
 pub returns-then-number_at-check_sum : goal.returns-then-number_at-check_sum
 returns-then-number_at-check_sum g c =
-    let wrong = check-wrong c.args.bytes.now c.args.number c.block_at-block.result.now c.block_at-block.ensures.value c.number_at.result c.check_sum.result c.number_at.ensures.value c.check_sum.ensures c.if-number_at-check_sum.true in
+    let wrong = check_wrong c.args.bytes.now c.args.number c.block_at-block.result.now c.block_at-block.ensures.value c.number_at.result c.check_sum.result c.number_at.ensures.value c.check_sum.ensures c.if-number_at-check_sum.true in
     ap (λ o. unless o tt) (sym (by_check g.K.Kind.label g.K.Kind.size c.args.bytes.now c.args.number wrong))
 
 pub returns-then-not-is_framed : goal.returns-then-not-is_framed
 returns-then-not-is_framed g c =
-    let right = check-right c.args.bytes.now c.args.number c.block_at-block.result.now c.block_at-block.ensures.value c.number_at.result c.check_sum.result c.number_at.ensures.value c.check_sum.ensures c.if-number_at-check_sum.false in
+    let right = check_right c.args.bytes.now c.args.number c.block_at-block.result.now c.block_at-block.ensures.value c.number_at.result c.check_sum.result c.number_at.ensures.value c.check_sum.ensures c.if-number_at-check_sum.false in
     let frame = framed_is c.args.bytes.now c.args.number c.block_at-block.result.now c.block_at-block.ensures.value c.number_at-count.result c.number_at-count.ensures.value false c.if-not-is_framed.ensures.value in
     ap (λ o. unless o tt) (sym (by_frame g.K.Kind.label g.K.Kind.size c.args.bytes.now c.args.number right frame))
 
 pub returns : goal.returns
 returns g c =
-    let right = check-right c.args.bytes.now c.args.number c.block_at-block.result.now c.block_at-block.ensures.value c.number_at.result c.check_sum.result c.number_at.ensures.value c.check_sum.ensures c.if-number_at-check_sum.false in
+    let right = check_right c.args.bytes.now c.args.number c.block_at-block.result.now c.block_at-block.ensures.value c.number_at.result c.check_sum.result c.number_at.ensures.value c.check_sum.ensures c.if-number_at-check_sum.false in
     let frame = framed_is c.args.bytes.now c.args.number c.block_at-block.result.now c.block_at-block.ensures.value c.number_at-count.result c.number_at-count.ensures.value true c.if-not-is_framed.ensures.value in
     let count = c.number_at-count.ensures.value ∙ ap count_in c.block_at-block.ensures.value in
     let at : ℕ → Option Damage = λ j. found (foreign g.K.Kind.label g.K.Kind.size c.args.bytes.now (18 * c.args.number + j)) (Foreign (18 * c.args.number + j)) in

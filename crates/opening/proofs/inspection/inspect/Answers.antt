@@ -6,7 +6,7 @@ use Rattle.blocks.specs.Reading.{blocks_in, row_count, rows_in}
 use Rattle.opening.specs.Damages.{first, wrong_length, block_damage, nesting_damage}
 use Rattle.opening.specs.Searching.{HoldsNested}
 use Rattle.opening.specs.Firsts.{first_step}
-use Rattle.opening.proofs.Inspected.{was_damage, was_none, same_error, by_length, by-block, by-nesting, by-neighbours, by-none, counted}
+use Rattle.opening.proofs.Inspected.{was_damage, was_none, same_error, by_length, by_block, by_nesting, by_neighbours, by_none, counted}
 use Rattle.opening.specs.WordsLemmas.{says, nesting_passes}
 use Rattle.opening.proofs.inspection.inspect.Goals as goal
 use Rattle.opening.proofs.inspection.inspect.Goals.{then-length-eq0-via-then-length-eq0, then-length-eq0-via-else-length-eq0+then-length-ne0, then-length-eq0-via-else-length-eq0+else-length-ne0+then-length-gt-MOST_BYTES}
@@ -52,7 +52,7 @@ returns-in_err-check_block g c =
     let good = right_length bytes c.if-length-eq0.false c.if-length-ne0.false c.if-length-gt-MOST_BYTES.false in
     let d = was_damage _ _ tt c.in_err-check_block.ensures in
     record {
-      answer = same_error _ _ c.from_residual.ensures.1 ∙ by-block label size bytes good c.loop-number.number _ c.loop-number-test.true c.loop-number.invariant d;
+      answer = same_error _ _ c.from_residual.ensures.1 ∙ by_block label size bytes good c.loop-number.number _ c.loop-number-test.true c.loop-number.invariant d;
       words = says label size bytes;
     }
 
@@ -75,7 +75,7 @@ returns-in_err-check_nesting g c =
     let good = right_length bytes c.if-length-eq0.false c.if-length-ne0.false c.if-length-gt-MOST_BYTES.false in
     let all = blocks label size bytes good c.if-length-eq0.false c.if-length-ne0.false c.loop-number.number c.loop-number-test.false c.loop-number.auto.number-end c.loop-number.invariant c.number_at-last.result c.number_at-last.ensures.value in
     record {
-      answer = same_error _ _ c.from_residual-in_err-check_nesting.ensures.1 ∙ by-nesting label size bytes good all _ (was_damage _ _ tt c.in_err-check_nesting.ensures);
+      answer = same_error _ _ c.from_residual-in_err-check_nesting.ensures.1 ∙ by_nesting label size bytes good all _ (was_damage _ _ tt c.in_err-check_nesting.ensures);
       words = says label size bytes;
     }
 
@@ -94,7 +94,7 @@ returns-in_err-check_neighbours g c =
     let good = right_length bytes c.if-length-eq0.false c.if-length-ne0.false c.if-length-gt-MOST_BYTES.false in
     let all = blocks label size bytes good c.if-length-eq0.false c.if-length-ne0.false c.loop-number.number c.loop-number-test.false c.loop-number.auto.number-end c.loop-number.invariant c.number_at-last.result c.number_at-last.ensures.value in
     record {
-      answer = same_error _ _ c.from_residual-in_err-check_neighbours.ensures.1 ∙ by-neighbours label size bytes good all _ (was_none _ tt tt c.in_ok-check_nesting.ensures).0 (was_damage _ _ tt c.in_err-check_neighbours.ensures);
+      answer = same_error _ _ c.from_residual-in_err-check_neighbours.ensures.1 ∙ by_neighbours label size bytes good all _ (was_none _ tt tt c.in_ok-check_nesting.ensures).0 (was_damage _ _ tt c.in_err-check_neighbours.ensures);
       words = says label size bytes;
     }
 
@@ -106,6 +106,6 @@ returns g c =
     let good = right_length bytes c.if-length-eq0.false c.if-length-ne0.false c.if-length-gt-MOST_BYTES.false in
     let all = blocks label size bytes good c.if-length-eq0.false c.if-length-ne0.false c.loop-number.number c.loop-number-test.false c.loop-number.auto.number-end c.loop-number.invariant c.number_at-last.result c.number_at-last.ensures.value in
     record {
-      answer = ap Ok (rows_are bytes c.number_at-last.result c.number_at-last.ensures.value) ∙ by-none label size bytes good all (was_none _ tt tt c.in_ok-check_nesting.ensures).0 (was_none _ tt tt c.in_ok-check_neighbours.ensures).0;
+      answer = ap Ok (rows_are bytes c.number_at-last.result c.number_at-last.ensures.value) ∙ by_none label size bytes good all (was_none _ tt tt c.in_ok-check_nesting.ensures).0 (was_none _ tt tt c.in_ok-check_neighbours.ensures).0;
       words = says label size bytes;
     }

@@ -7,7 +7,7 @@ use Rattle.blocks.specs.Reading.{row_count, rows_in}
 use Rattle.blocks.proofs.Formed.{length-rows}
 use Rattle.opening.specs.Damages.{first}
 use Rattle.opening.proofs.Found.{ranges_are}
-use Rattle.opening.proofs.Begun.{nesting_at, begun_first, begun_next, begun_passed, begun_stopped, ended-short, ended-whole}
+use Rattle.opening.proofs.Begun.{nesting_at, begun_first, begun_next, begun_passed, begun_stopped, ended_short, ended_whole}
 use Rattle.opening.proofs.nesting.check_nesting.Goals as goal
 use Rattle.opening.proofs.nesting.check_nesting.Goals.{then-not-are_forward-via-then-not-are_forward, then-not-are_forward-via-else-not-are_forward+then-not-start_at_zero, then-not-are_forward-2-via-then-not-are_forward-2, then-not-are_forward-2-via-else-not-are_forward-2+then-not-follow}
 
@@ -73,7 +73,7 @@ returns-then-not-end_at_largest c =
     let bytes = c.args.bytes.now in
     let rows = c.args.rows in
     let all : c.loop-row.row ≡ rows = omega (arith, c.loop-row-test.false, c.loop-row.auto.row-end, c.requires.1.0) in
-    ended-short (rows_in bytes) rows (sym (long bytes rows c.requires.0)) c.requires.1.0 (ap (λ n. first n (nesting_at (rows_in bytes))) (sym all) ∙ c.loop-row.invariant.0) (ap (λ n. begins tops (take n (rows_in bytes))) (sym all) ∙ c.loop-row.invariant.1)
+    ended_short (rows_in bytes) rows (sym (long bytes rows c.requires.0)) c.requires.1.0 (ap (λ n. first n (nesting_at (rows_in bytes))) (sym all) ∙ c.loop-row.invariant.0) (ap (λ n. begins tops (take n (rows_in bytes))) (sym all) ∙ c.loop-row.invariant.1)
     c.ranges_at-2.result (c.ranges_at-2.ensures.value ∙ sym (ranges_are bytes (rows - 1) (omega (arith, c.requires.1.0, c.requires.0)))) (sym c.if-not-end_at_largest.ensures)
 
 pub returns : goal.returns
@@ -81,5 +81,5 @@ returns c =
     let bytes = c.args.bytes.now in
     let rows = c.args.rows in
     let all : c.loop-row.row ≡ rows = omega (arith, c.loop-row-test.false, c.loop-row.auto.row-end, c.requires.1.0) in
-    (ended-whole (rows_in bytes) rows (sym (long bytes rows c.requires.0)) c.requires.1.0 (ap (λ n. first n (nesting_at (rows_in bytes))) (sym all) ∙ c.loop-row.invariant.0) (ap (λ n. begins tops (take n (rows_in bytes))) (sym all) ∙ c.loop-row.invariant.1)
+    (ended_whole (rows_in bytes) rows (sym (long bytes rows c.requires.0)) c.requires.1.0 (ap (λ n. first n (nesting_at (rows_in bytes))) (sym all) ∙ c.loop-row.invariant.0) (ap (λ n. begins tops (take n (rows_in bytes))) (sym all) ∙ c.loop-row.invariant.1)
     c.ranges_at-2.result (c.ranges_at-2.ensures.value ∙ sym (ranges_are bytes (rows - 1) (omega (arith, c.requires.1.0, c.requires.0)))) (sym c.if-not-end_at_largest.ensures)).0

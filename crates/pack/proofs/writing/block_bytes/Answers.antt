@@ -17,5 +17,5 @@ returns c =
     let rows = c.args.rows.now in
     let all = c.loop-row.invariant ∙ ap (λ (x : List Row). heading kind number rows ++ flat_map (row_bytes kind) (view x)) (take_all c.loop-row.row-index rows c.loop-row-test.false) in
     let body = body_written kind number rows (vec_items c.loop-row.bytes) _ (vec_len c.loop-row.bytes) c.requires all c.loop-row.bytes.ok.0 c.in_ok-resize.ensures.items in
-    let all-of-it = take_all 508 (vec_items c.resize.new.self) (omega (arith, c.in_ok-resize.ensures.len, c.resize.new.self.ok.0)) in
-    block_written kind number rows _ _ c.check_sum-check.result body (c.check_sum-check.ensures ∙ ap (λ (b : List ℕ). check_sum (take 508 b)) c.deref.ensures.value ∙ ap check_sum all-of-it) c.in_ok-append_number-3.ensures
+    let all_of_it = take_all 508 (vec_items c.resize.new.self) (omega (arith, c.in_ok-resize.ensures.len, c.resize.new.self.ok.0)) in
+    block_written kind number rows _ _ c.check_sum-check.result body (c.check_sum-check.ensures ∙ ap (λ (b : List ℕ). check_sum (take 508 b)) c.deref.ensures.value ∙ ap check_sum all_of_it) c.in_ok-append_number-3.ensures

@@ -10,7 +10,7 @@ use Rattle.table.specs.Rows.{plain, view, most_rows}
 use Rattle.table.specs.Parts.{table_from, uncut, cut_between}
 use Rattle.table.proofs.Exits.{none_made, handed_on}
 use Rattle.table.proofs.Built.{built_as}
-use Rattle.table.proofs.Steps.{leaf, cell-counts, edge-from, first_step, next-step, all-count, last_step}
+use Rattle.table.proofs.Steps.{leaf, cell_counts, edge_from, first_step, next_step, all_count, last_step}
 use Rattle.table.proofs.rows.+append_table.Goals as goal
 use Rattle.table.proofs.rows.+append_table.Goals.{then-is_repeated, else-is_repeated+else-len-base-gt-MOST_ROWS}
 
@@ -29,7 +29,7 @@ returns-in_err-append_table g t c =
       rows = none_made _ _ _ x;
       few = none_made _ _ _ x;
       refused = handed_on _ _ _ _ x
-          (cell-counts (g.S.Source.meaning c.args.source.now) c.in-Some.here c.args.field c.in-Some.ensures c.args.at c.with-first.result 0 (omega arith, c.with-first.ensures))
+          (cell_counts (g.S.Source.meaning c.args.source.now) c.in-Some.here c.args.field c.in-Some.ensures c.args.at c.with-first.result 0 (omega arith, c.with-first.ensures))
           c.in_err-append_table.ensures.refused;
     }
 
@@ -57,7 +57,7 @@ returns-in_err-append_table-2 g t c =
       rows = none_made _ _ _ x;
       few = none_made _ _ _ x;
       refused = handed_on _ _ _ _ x
-          (cell-counts (g.S.Source.meaning c.args.source.now) c.in-Some.here c.args.field c.in-Some.ensures c.args.at c.with-next.result (c.loop-high.high + 1) (omega (arith, c.loop-high-test.true, c.top-top.ensures), c.with-next.ensures))
+          (cell_counts (g.S.Source.meaning c.args.source.now) c.in-Some.here c.args.field c.in-Some.ensures c.args.at c.with-next.result (c.loop-high.high + 1) (omega (arith, c.loop-high-test.true, c.top-top.ensures), c.with-next.ensures))
           c.in_err-append_table-2.ensures.refused;
     }
 
@@ -85,7 +85,7 @@ returns-then-len-base-gt-MOST_ROWS g t c = record {
 
     counted : length (view (vec_items c.append_table-in-loop-high.new.rows))
         ≤ length (take c.len-base.result (view (vec_items c.append_table.new.rows))) + length (table_from (g.S.Source.meaning c.args.source.now) c.args.field (values c.args.at))
-    counted = all-count (g.S.Source.meaning c.args.source.now) c.in-Some.here c.args.field c.in-Some.ensures c.args.at (take c.len-base.result (view (vec_items c.append_table.new.rows))) (view (vec_items c.loop-high.rows)) c.loop-high.start c.loop-high.low c.loop-high.high c.loop-high.invariant.0
+    counted = all_count (g.S.Source.meaning c.args.source.now) c.in-Some.here c.args.field c.in-Some.ensures c.args.at (take c.len-base.result (view (vec_items c.append_table.new.rows))) (view (vec_items c.loop-high.rows)) c.loop-high.start c.loop-high.low c.loop-high.high c.loop-high.invariant.0
         c.with-next.result (omega (arith, c.loop-high-test.true, c.top-top.ensures), c.with-next.ensures)
         (view (vec_items c.append_table-in-loop-high.new.rows)) c.in_ok-append_table-2.ensures.rows c.len-end.result long c.is_repeated.result told c.if-is_repeated.false
 
@@ -93,7 +93,7 @@ pub loop-high-smaller : goal.loop-high-smaller
 loop-high-smaller g t c = omega (
   arith,
   c.loop-high-test.true,
-  edge-from (g.S.Source.meaning c.args.source.now) c.in-Some.here c.args.field c.in-Some.ensures c.args.at c.with-next.result (c.loop-high.high + 1) (omega (arith, c.loop-high-test.true, c.top-top.ensures), c.with-next.ensures) c.edge-high-in-loop-high.result edge,
+  edge_from (g.S.Source.meaning c.args.source.now) c.in-Some.here c.args.field c.in-Some.ensures c.args.at c.with-next.result (c.loop-high.high + 1) (omega (arith, c.loop-high-test.true, c.top-top.ensures), c.with-next.ensures) c.edge-high-in-loop-high.result edge,
 )
   where
     edge : Edge (g.S.Source.meaning c.args.source.now) (values c.with-next.result) (place c.in-Some.here) c.edge-high-in-loop-high.result
@@ -104,7 +104,7 @@ loop-high-preserved g t c =
     let m = g.S.Source.meaning c.args.source.now in
     let now = vec_items c.loop-high.rows in
     let all = vec_items c.append_table-in-loop-high.new.rows in
-    let two = next-step m c.in-Some.here c.args.field c.in-Some.ensures c.args.at (take c.len-base.result (view (vec_items c.append_table.new.rows))) (view now) c.loop-high.start c.loop-high.low c.loop-high.high c.loop-high.invariant.0
+    let two = next_step m c.in-Some.here c.args.field c.in-Some.ensures c.args.at (take c.len-base.result (view (vec_items c.append_table.new.rows))) (view now) c.loop-high.start c.loop-high.low c.loop-high.high c.loop-high.invariant.0
     c.with-next.result (more, c.with-next.ensures) (view all) c.in_ok-append_table-2.ensures.rows c.len-end.result long c.is_repeated.result told c.edge-high-in-loop-high.result edge in
     elim c.if-is_repeated.branch [
       | then-is_repeated w ↦ (

@@ -22,25 +22,25 @@ loop-line-init g c = (
 pub loop-line-preserved : goal.loop-line-preserved
 loop-line-preserved g c =
     let read = read_word g.K.Kind.size g.K.Kind.silence g.K.Kind.spelling in
-    let now-left = c.in-Some.ensures in
+    let now_left = c.in-Some.ensures in
     let rules = c.loop-line.invariant.1 in
     let told = counted_taken (c.loop-line.number + 1) rules c.loop-line.count c.loop-line.invariant.2 (line_of read c.in-Some.line.now) c.in_ok-count.count c.in_ok-count.ensures in (
-      omega (arith, ap extent now-left, c.loop-line.invariant.0),
+      omega (arith, ap extent now_left, c.loop-line.invariant.0),
       (add_line read (c.loop-line.number + 1) c.in-Some.line.now rules).rules,
       told.1,
-      c.loop-line.invariant.3 ∙ ap (λ ls. lines_from read (c.loop-line.number + 1) ls rules) now-left
+      c.loop-line.invariant.3 ∙ ap (λ ls. lines_from read (c.loop-line.number + 1) ls rules) now_left
           ∙ lines_more read (c.loop-line.number + 1) c.in-Some.line.now (left c.next.new.self) rules _ told.0 refl,
     )
 
 pub returns-in_err-count : goal.returns-in_err-count
 returns-in_err-count g c =
     let read = read_word g.K.Kind.size g.K.Kind.silence g.K.Kind.spelling in
-    let now-left = c.in-Some.ensures in
+    let now_left = c.in-Some.ensures in
     let rules = c.loop-line.invariant.1 in
     let fault = c.in_err-count.field-0.0 in
     let told = counted_stop (c.loop-line.number + 1) rules c.loop-line.count c.loop-line.invariant.2 (line_of read c.in-Some.line.now) fault c.in_err-count.ensures in
     let p = err_from_is_err_and c.from_residual.result c.from_residual.ensures.1 in
-    let is = c.loop-line.invariant.3 ∙ ap (λ ls. lines_from read (c.loop-line.number + 1) ls rules) now-left
+    let is = c.loop-line.invariant.3 ∙ ap (λ ls. lines_from read (c.loop-line.number + 1) ls rules) now_left
     ∙ lines_stop read (c.loop-line.number + 1) c.in-Some.line.now (left c.next.new.self) rules _ fault told refl in
     rw (p.1, p.2) (sym (ap (λ (s : Reading). s.answer) is))
 

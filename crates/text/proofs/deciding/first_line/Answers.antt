@@ -23,13 +23,13 @@ slice_bounds-result-end g c =
 pub returns-then-line_holds : goal.returns-then-line_holds
 returns-then-line_holds g c =
     let read = read_word g.K.Kind.size g.K.Kind.silence g.K.Kind.spelling in
-    let now-left = c.in-Some.ensures in
-    let cut = subst (Cut c.args.text.now c.loop-line.start) now-left c.loop-line.invariant.1 in
+    let now_left = c.in-Some.ensures in
+    let cut = subst (Cut c.args.text.now c.loop-line.start) now_left c.loop-line.invariant.1 in
     let within = cut_within c.args.text.now c.loop-line.start c.in-Some.line.now (left c.next.new.self) cut in
     let bytes = cut_bytes c.args.text.now c.loop-line.start c.in-Some.line.now (left c.next.new.self) cut in
     let part = ap (λ n. take n (drop c.loop-line.start c.args.text.now)) (let e : c.loop-line.start + length c.in-Some.line.now - c.loop-line.start ≡ length c.in-Some.line.now = omega arith in e) in (
       record { start = c.loop-line.start; line = c.in-Some.line.now },
-      c.loop-line.invariant.2 ∙ ap (first_line read (values c.args.packet) c.loop-line.start) now-left
+      c.loop-line.invariant.2 ∙ ap (first_line read (values c.args.packet) c.loop-line.start) now_left
           ∙ line_here read (values c.args.packet) c.loop-line.start c.in-Some.line.now (left c.next.new.self) c.if-line_holds.ensures,
       record { block = refl; offset = search rules; bytes = part ∙ sym bytes; of_text = part; within = within },
     )
@@ -37,11 +37,11 @@ returns-then-line_holds g c =
 pub loop-line-preserved : goal.loop-line-preserved
 loop-line-preserved g c =
     let read = read_word g.K.Kind.size g.K.Kind.silence g.K.Kind.spelling in
-    let now-left = c.in-Some.ensures in
-    let cut = subst (Cut c.args.text.now c.loop-line.start) now-left c.loop-line.invariant.1 in (
-      omega (arith, ap extent now-left, c.loop-line.invariant.0),
+    let now_left = c.in-Some.ensures in
+    let cut = subst (Cut c.args.text.now c.loop-line.start) now_left c.loop-line.invariant.1 in (
+      omega (arith, ap extent now_left, c.loop-line.invariant.0),
       cut_more c.args.text.now c.loop-line.start c.in-Some.line.now (left c.next.new.self) cut,
-      c.loop-line.invariant.2 ∙ ap (first_line read (values c.args.packet) c.loop-line.start) now-left
+      c.loop-line.invariant.2 ∙ ap (first_line read (values c.args.packet) c.loop-line.start) now_left
           ∙ line_later read (values c.args.packet) c.loop-line.start c.in-Some.line.now (left c.next.new.self) c.if-line_holds.ensures,
     )
 

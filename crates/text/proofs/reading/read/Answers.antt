@@ -19,19 +19,19 @@ loop-line-init g c = (
 
 pub loop-line-preserved : goal.loop-line-preserved
 loop-line-preserved g c =
-    let now-left = c.in-Some.ensures in
+    let now_left = c.in-Some.ensures in
     let told = c.in_ok-add_line.ensures in (
-      omega (arith, ap extent now-left, c.loop-line.invariant.0),
-      c.loop-line.invariant.1 ∙ ap (λ ls. lines_from (read_word g.K.Kind.size g.K.Kind.silence g.K.Kind.spelling) (c.loop-line.number + 1) ls (rules_of c.loop-line.book)) now-left
+      omega (arith, ap extent now_left, c.loop-line.invariant.0),
+      c.loop-line.invariant.1 ∙ ap (λ ls. lines_from (read_word g.K.Kind.size g.K.Kind.silence g.K.Kind.spelling) (c.loop-line.number + 1) ls (rules_of c.loop-line.book)) now_left
           ∙ lines_more (read_word g.K.Kind.size g.K.Kind.silence g.K.Kind.spelling) (c.loop-line.number + 1) c.in-Some.line.now (left c.next.new.self) (rules_of c.loop-line.book) (rules_of c.add_line.new.book) told.answer told.rules,
     )
 
 pub returns-in_err-add_line : goal.returns-in_err-add_line
 returns-in_err-add_line g c =
-    let now-left = c.in-Some.ensures in
+    let now_left = c.in-Some.ensures in
     let told = c.in_err-add_line.ensures in
     let p = err_from_is_err_and c.from_residual.result c.from_residual.ensures.1 in
-    let is = c.loop-line.invariant.1 ∙ ap (λ ls. lines_from (read_word g.K.Kind.size g.K.Kind.silence g.K.Kind.spelling) (c.loop-line.number + 1) ls (rules_of c.loop-line.book)) now-left
+    let is = c.loop-line.invariant.1 ∙ ap (λ ls. lines_from (read_word g.K.Kind.size g.K.Kind.silence g.K.Kind.spelling) (c.loop-line.number + 1) ls (rules_of c.loop-line.book)) now_left
     ∙ lines_stop (read_word g.K.Kind.size g.K.Kind.silence g.K.Kind.spelling) (c.loop-line.number + 1) c.in-Some.line.now (left c.next.new.self) (rules_of c.loop-line.book) (rules_of c.add_line.new.book) c.in_err-add_line.field-0.0 told.answer told.rules in
     record { answer = rw (p.1, p.2) (sym (ap (λ (s : Reading). s.answer) is)); rules = sym (ap (λ (s : Reading). s.rules) is) }
 

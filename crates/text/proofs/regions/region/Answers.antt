@@ -37,13 +37,13 @@ loop-field-preserved c =
     let so_far = take c.loop-field.index (ranges c.loop-field.region) in
     let taken = c.in-Some-next.ensures in
     let read = c.in_ok-range.ensures _ _ taken.stands in
-    let now-placed = placed c.in-Some.field c.loop-field.index (ranges c.loop-field.region) (ranges c.with-region.result) c.in_ok-range.field-0
+    let now_placed = placed c.in-Some.field c.loop-field.index (ranges c.loop-field.region) (ranges c.with-region.result) c.in_ok-range.field-0
     c.in-Some.ensures refl (range_sound c.in-Some.field _ _ _ read) c.with-region.ensures in (
       omega (arith, field_within c.in-Some.field, c.in-Some.ensures),
       c.loop-field.invariant.1
           ∙ ap (λ ws. before so_far (ranges_from (drop c.loop-field.index fields) c.loop-field.words.column ws)) taken.words_are
           ∙ ranges_more c.in-Some.field c.loop-field.index c.in-Some.ensures c.loop-field.words.column _ _ _ _ so_far read taken.moved
-          ∙ ap (λ rs. before rs (ranges_from (drop (c.loop-field.index + 1) fields) c.next.new.self.column (left c.next.new.self.words))) (sym now-placed),
+          ∙ ap (λ rs. before rs (ranges_from (drop (c.loop-field.index + 1) fields) c.next.new.self.column (left c.next.new.self.words))) (sym now_placed),
     )
 
 pub returns : goal.returns

@@ -1,7 +1,7 @@
 use Rattle.packet.specs.Packets.{values}
 use Rattle.decision.specs.Kinds.{read_word}
 use Rattle.text.specs.DecidingLines.{place_of}
-use Rattle.winner.proofs.Won.{first-wins, second-wins, first-settles, second-settles}
+use Rattle.winner.proofs.Won.{first_wins, second_wins, first_settles, second_settles}
 use Rattle.winner.proofs.winning.winner.Goals as goal
 
 pub returns-in-Some-default : goal.returns-in-Some-default
@@ -10,9 +10,9 @@ returns-in-Some-default g c =
     let upper = c.in-Ok.ensures in
     let lower = c.in-Ok-deciding_line.ensures in
     record {
-      place = first-wins c.in-Ok.line c.in-Ok-deciding_line.line c.in-Some-default.line c.args.first c.args.second
+      place = first_wins c.in-Ok.line c.in-Ok-deciding_line.line c.in-Some-default.line c.args.first c.args.second
           (place_of read (values c.args.packet)) upper.place lower.place c.in-Some-default.is-0;
-      decision = first-settles c.in-Ok.line c.in-Ok-deciding_line.line c.in-Some-default.line c.args.first c.args.second
+      decision = first_settles c.in-Ok.line c.in-Ok-deciding_line.line c.in-Some-default.line c.args.first c.args.second
           g.K.Kind.size g.K.Kind.silence read (values c.args.packet) upper.decision c.in-Some-default.is-0;
     }
 
@@ -22,8 +22,8 @@ returns-in-None-Some g c =
     let upper = c.in-Ok.ensures in
     let lower = c.in-Ok-deciding_line.ensures in
     record {
-      place = second-wins c.in-Ok.line c.in-Ok-deciding_line.line c.in-None-Some.line c.args.first c.args.second
+      place = second_wins c.in-Ok.line c.in-Ok-deciding_line.line c.in-None-Some.line c.args.first c.args.second
           (place_of read (values c.args.packet)) upper.place lower.place c.in-None-Some.is-0 c.in-None-Some.is-1;
-      decision = second-settles c.in-Ok.line c.in-Ok-deciding_line.line c.in-None-Some.line c.args.first c.args.second
+      decision = second_settles c.in-Ok.line c.in-Ok-deciding_line.line c.in-None-Some.line c.args.first c.args.second
           g.K.Kind.size g.K.Kind.silence read (values c.args.packet) upper.decision c.in-None-Some.is-0 c.in-None-Some.is-1 lower.decision;
     }
