@@ -3,23 +3,23 @@ ghost use Rattle.std.specs.Prelude.{◌≡◌, ℕ, Bool, List};
 ghost use Rattle.std.specs.Str.{bytes_eq};
 ghost use Rattle.decision.specs.Kinds.{Bounds, Lattice, Foreign, Words, known, read_word};
 
-// A kind's decisions are the numbers below its count. Generic code reads the three constants through the functions below, whose
-// contracts say which number they answer.
+// A kind's decisions are the numbers below its count. Each constant has a ghost member of its name beside it, by which contracts
+// name its value.
 pub trait Kind {
+    // The kind's number.
     const NUMBER: u8;
 
+    ghost NUMBER: { ℕ };
+
+    // How many decisions it has.
     const COUNT: u8;
 
+    ghost COUNT: { ℕ };
+
+    // Its silent decision.
     const SILENT: u8;
 
-    // the kind's number
-    ghost label: { ℕ };
-
-    // its count of decisions
-    ghost size: { ℕ };
-
-    // its silent decision
-    ghost silence: { ℕ };
+    ghost SILENT: { ℕ };
 
     // is a below b?
     ghost under: { ℕ → ℕ → Bool };
@@ -32,15 +32,6 @@ pub trait Kind {
 
     // the word of a decision
     ghost spelling: { ℕ → List ℕ };
-
-    fn kind_number() -> u8
-        ensures { result ≡ label };
-
-    fn decision_count() -> u8
-        ensures { result ≡ size };
-
-    fn silent_decision() -> u8
-        ensures { result ≡ silence };
 
     fn below(a: u8, b: u8) -> bool
         ensures { result ≡ under a b };
@@ -56,35 +47,35 @@ pub trait Kind {
 
     // The decision itself, or the silent one for a number that is no decision of the kind.
     fn or_silent(decision: u8) -> u8
-        ensures { result ≡ known size silence decision }
+        ensures { result ≡ known COUNT SILENT decision }
     {
-        if decision < Self::decision_count() {
+        if decision < Self::COUNT {
             decision
         } else {
-            Self::silent_decision()
+            Self::SILENT
         }
     }
 
     // The decision other than the silent one that has this word.
     #[tactic(auto, using(crate::specs::Words::read_here, crate::specs::Words::read_other, crate::specs::Words::read_silent, crate::specs::Words::read_end))]
     fn read(word: &[u8]) -> Option<u8>
-        ensures { result ≡ read_word size silence spelling word.now }
+        ensures { result ≡ read_word COUNT SILENT spelling word.now }
     {
-        for decision in (0..Self::decision_count()).rev() {
-            if decision != Self::silent_decision() && is_same(Self::word(decision), word) {
+        for decision in (0..Self::COUNT).rev() {
+            if decision != Self::SILENT && is_same(Self::word(decision), word) {
                 return Some(decision);
             }
         }
         None
     }
 
-    ghost bounds: { Bounds label size silence };
+    ghost bounds: { Bounds NUMBER COUNT SILENT };
 
-    ghost lattice: { Lattice size under lower upper };
+    ghost lattice: { Lattice COUNT under lower upper };
 
-    ghost foreign: { Foreign size silence under lower upper };
+    ghost foreign: { Foreign COUNT SILENT under lower upper };
 
-    ghost words: { Words size silence spelling };
+    ghost words: { Words COUNT SILENT spelling };
 }
 
 // Are the text's bytes these?

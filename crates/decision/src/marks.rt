@@ -12,15 +12,15 @@ pub struct Marks;
 impl Kind for Marks {
     const NUMBER: u8 = 2;
 
+    ghost NUMBER = { 2 };
+
     const COUNT: u8 = 16;
+
+    ghost COUNT = { 16 };
 
     const SILENT: u8 = 0;
 
-    ghost label = { 2 };
-
-    ghost size = { 16 };
-
-    ghost silence = { 0 };
+    ghost SILENT = { 0 };
 
     ghost under = { known_below 16 contained };
 
@@ -38,18 +38,6 @@ impl Kind for Marks {
 
     ghost words = { words_tested _ _ _ refl refl refl refl };
 
-    fn kind_number() -> u8 {
-        Self::NUMBER
-    }
-
-    fn decision_count() -> u8 {
-        Self::COUNT
-    }
-
-    fn silent_decision() -> u8 {
-        Self::SILENT
-    }
-
     fn below(a: u8, b: u8) -> bool {
         a < Self::COUNT && b < Self::COUNT && a & b == a
     }
@@ -58,7 +46,7 @@ impl Kind for Marks {
         if a < Self::COUNT && b < Self::COUNT {
             a & b
         } else {
-            Self::silent_decision()
+            Self::SILENT
         }
     }
 
@@ -66,7 +54,7 @@ impl Kind for Marks {
         if a < Self::COUNT && b < Self::COUNT {
             a | b
         } else {
-            Self::silent_decision()
+            Self::SILENT
         }
     }
 

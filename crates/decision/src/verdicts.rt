@@ -12,15 +12,15 @@ pub struct Verdicts;
 impl Kind for Verdicts {
     const NUMBER: u8 = 1;
 
+    ghost NUMBER = { 1 };
+
     const COUNT: u8 = 3;
+
+    ghost COUNT = { 3 };
 
     const SILENT: u8 = 1;
 
-    ghost label = { 1 };
-
-    ghost size = { 3 };
-
-    ghost silence = { 1 };
+    ghost SILENT = { 1 };
 
     ghost under = { known_below 3 nat_le };
 
@@ -38,18 +38,6 @@ impl Kind for Verdicts {
 
     ghost words = { words_tested _ _ _ refl refl refl refl };
 
-    fn kind_number() -> u8 {
-        Self::NUMBER
-    }
-
-    fn decision_count() -> u8 {
-        Self::COUNT
-    }
-
-    fn silent_decision() -> u8 {
-        Self::SILENT
-    }
-
     fn below(a: u8, b: u8) -> bool {
         a < Self::COUNT && b < Self::COUNT && a <= b
     }
@@ -58,7 +46,7 @@ impl Kind for Verdicts {
         if a < Self::COUNT && b < Self::COUNT {
             a.min(b)
         } else {
-            Self::silent_decision()
+            Self::SILENT
         }
     }
 
@@ -66,7 +54,7 @@ impl Kind for Verdicts {
         if a < Self::COUNT && b < Self::COUNT {
             a.max(b)
         } else {
-            Self::silent_decision()
+            Self::SILENT
         }
     }
 

@@ -14,7 +14,7 @@ use decision::Kind;
 // The block's first damage, if it has any.
 pub(crate) fn check_block<K: Kind>(bytes: &[u8], number: usize) -> Result<(), Damage>
     requires { (number < length bytes.now / 512) × (length bytes.now ≤ 32768) }
-    ensures { result ≡ unless (block_damage K.Kind.label K.Kind.size bytes.now number) tt }
+    ensures { result ≡ unless (block_damage K.Kind.NUMBER K.Kind.COUNT bytes.now number) tt }
 {
     let block = block_at(bytes, number);
     if number_at(block, BODY_BYTES, 4) != check_sum(block) {
@@ -76,11 +76,11 @@ fn is_zero(bytes: &[u8]) -> bool
 // The first of `count` rows from `start` on that has another kind's number, or a decision that is none of the kind's.
 fn check_rows<K: Kind>(bytes: &[u8], start: usize, count: usize) -> Result<(), Damage>
     requires { (start + count ≤ 18 * (length bytes.now / 512)) × (length bytes.now ≤ 32768) }
-    ensures { result ≡ unless (first count (λ j. found (foreign K.Kind.label K.Kind.size bytes.now (start + j)) (Foreign (start + j)))) tt }
+    ensures { result ≡ unless (first count (λ j. found (foreign K.Kind.NUMBER K.Kind.COUNT bytes.now (start + j)) (Foreign (start + j)))) tt }
 {
     for j in 0..count {
         let row = row_at(bytes, start + j);
-        if row[KIND] != K::kind_number() || row[DECISION] >= K::decision_count() {
+        if row[KIND] != K::NUMBER || row[DECISION] >= K::COUNT {
             return Err(Damage::Foreign(start + j));
         }
     }

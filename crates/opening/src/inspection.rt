@@ -21,8 +21,8 @@ const MOST_BYTES: usize = 32_768;
 
 // The count of rows, or the first damage. Nothing is allocated.
 pub fn inspect<K: Kind>(bytes: &[u8]) -> Result<usize, Damage>
-    ensures answer { result ≡ inspected K.Kind.label K.Kind.size bytes.now }
-    ensures words { Says (damage_of K.Kind.label K.Kind.size bytes.now) (rows_in bytes.now) }
+    ensures answer { result ≡ inspected K.Kind.NUMBER K.Kind.COUNT bytes.now }
+    ensures words { Says (damage_of K.Kind.NUMBER K.Kind.COUNT bytes.now) (rows_in bytes.now) }
 {
     let length = bytes.len();
     if length == 0 || length % BLOCK_BYTES != 0 || length > MOST_BYTES {
@@ -41,7 +41,7 @@ pub fn inspect<K: Kind>(bytes: &[u8]) -> Result<usize, Damage>
 
 // The decision of the row that holds the packet, or the first damage of the bytes. Nothing is allocated.
 pub fn decide_packed<K: Kind>(bytes: &[u8], packet: &Packet) -> Result<u8, Damage>
-    ensures { result ≡ decided_on K.Kind.label K.Kind.size bytes.now (values packet.now) }
+    ensures { result ≡ decided_on K.Kind.NUMBER K.Kind.COUNT bytes.now (values packet.now) }
 {
     let rows = inspect::<K>(bytes)?;
     Ok(row_decision(bytes, rows, &packet.to_array()))

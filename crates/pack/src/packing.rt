@@ -20,14 +20,14 @@ pub fn pack<K: Kind, S: Source<K>>(
     bytes: &mut [u8],
 ) -> Result<usize, PackRefusal>
     ensures answer { Packs (length bytes.old / 512) (length (table tops (S.Source.meaning source.now))) result }
-    ensures bytes { bytes.new ≡ left_by result (packed K.Kind.label (table tops (S.Source.meaning source.now))) bytes.old }
+    ensures bytes { bytes.new ≡ left_by result (packed K.Kind.NUMBER (table tops (S.Source.meaning source.now))) bytes.old }
 {
     let rows = rows_of::<K, S>(heap, source)?;
     let blocks = rows.len().div_ceil(BLOCK_ROWS);
     if blocks > bytes.len() / BLOCK_BYTES {
         return Err(PackRefusal::TooLarge);
     }
-    let Ok(written) = packed_bytes(heap, K::kind_number(), &rows) else {
+    let Ok(written) = packed_bytes(heap, K::NUMBER, &rows) else {
         return Err(PackRefusal::Memory);
     };
     bytes[0..written.len()].copy_from_slice(&written);

@@ -14,18 +14,20 @@ pub enum Field {
 impl Field {
     pub const COUNT: usize = 5;
 
+    // All fields, in their order.
+    pub const ALL: [Field; Field::COUNT] = [
+        Field::Source,
+        Field::SourcePort,
+        Field::Destination,
+        Field::DestinationPort,
+        Field::Protocol,
+    ];
+
     // The field at a place counted from 0; none past the last.
     pub fn at(index: usize) -> Option<Field>
         ensures { MatchOption result (length tops ≤ index) (λ field. place field ≡ index) }
     {
-        match index {
-            0 => Some(Field::Source),
-            1 => Some(Field::SourcePort),
-            2 => Some(Field::Destination),
-            3 => Some(Field::DestinationPort),
-            4 => Some(Field::Protocol),
-            _ => None,
-        }
+        Field::ALL.get(index).copied()
     }
 
     // The field's place, counted from 0.
@@ -33,13 +35,7 @@ impl Field {
         ensures value { result ≡ place self }
         ensures bound { result < length tops }
     {
-        match self {
-            Field::Source => 0,
-            Field::SourcePort => 1,
-            Field::Destination => 2,
-            Field::DestinationPort => 3,
-            Field::Protocol => 4,
-        }
+        self as usize
     }
 
     // The field's largest value.

@@ -4,7 +4,7 @@ ghost use Rattle.packet.specs.Packets.{values, tops, place, Within, earlier};
 
 use crate::field::Field;
 
-#[derive(Clone, Copy, PartialEq, Eq, PartialOrd, Ord, Debug)]
+#[derive(Clone, Copy, PartialEq, Eq, PartialOrd, Ord, Debug, Default)]
 pub struct Packet {
     pub source: u32,
     pub source_port: u16,
@@ -14,6 +14,15 @@ pub struct Packet {
 }
 
 impl Packet {
+    // The packet with the largest value in each field. The one with 0 in each is the default.
+    pub const LARGEST: Packet = Packet {
+        source: 4_294_967_295,
+        source_port: 65_535,
+        destination: 4_294_967_295,
+        destination_port: 65_535,
+        protocol: 255,
+    };
+
     // The value of one field.
     pub fn get(self, field: Field) -> u32
         ensures value { result ≡ slice_index (values self) (place field) }

@@ -14,17 +14,17 @@ pub struct Over<A, B> {
 }
 
 impl<K: Kind, A: Source<K>, B: Source<K>> Source<K> for Over<A, B> {
-    ghost meaning = { λ s p. over K.Kind.silence (A.Source.meaning s.first p) (B.Source.meaning s.second p) };
+    ghost meaning = { λ s p. over K.Kind.SILENT (A.Source.meaning s.first p) (B.Source.meaning s.second p) };
 
     ghost stops = { λ s f p r. Lower (A.Source.stops s.first f p) (B.Source.stops s.second f p) r };
 
-    ghost decided = { λ s p w. over_of_kind K.Kind.size K.Kind.silence _ _ (A.Source.decided s.first p w) (B.Source.decided s.second p w) };
+    ghost decided = { λ s p w. over_of_kind K.Kind.COUNT K.Kind.SILENT _ _ (A.Source.decided s.first p w) (B.Source.decided s.second p w) };
 
-    ghost sound = { λ s f p r few w l. edge_of_both (over K.Kind.silence) _ _ p f r _ _ (λ a. A.Source.sound _ _ _ _ few w) (λ b. B.Source.sound _ _ _ _ few w) l };
+    ghost sound = { λ s f p r few w l. edge_of_both (over K.Kind.SILENT) _ _ p f r _ _ (λ a. A.Source.sound _ _ _ _ few w) (λ b. B.Source.sound _ _ _ _ few w) l };
 
     fn decide(&self, packet: &Packet) -> u8 {
         let first = self.first.decide(packet);
-        if first == K::silent_decision() {
+        if first == K::SILENT {
             self.second.decide(packet)
         } else {
             first

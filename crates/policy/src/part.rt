@@ -44,18 +44,18 @@ impl<S> Part<S> {
 }
 
 impl<K: Kind, S: Source<K>> Source<K> for Part<S> {
-    ghost meaning = { λ s p. part K.Kind.silence (ranges s.region) (S.Source.meaning s.source) p };
+    ghost meaning = { λ s p. part K.Kind.SILENT (ranges s.region) (S.Source.meaning s.source) p };
 
     ghost stops = { λ s f p r. Lower (S.Source.stops s.source f p) (λ own. own ≡ own_end (ranges s.region) f p) r };
 
     ghost decided = { λ s p w.
-        elim (holds (ranges s.region) p) as (λ inside. (if inside then S.Source.meaning s.source p else K.Kind.silence) < K.Kind.size) [
+        elim (holds (ranges s.region) p) as (λ inside. (if inside then S.Source.meaning s.source p else K.Kind.SILENT) < K.Kind.COUNT) [
           | true ↦ S.Source.decided s.source p w
           | false ↦ K.Kind.bounds.of_kind
         ] };
 
     ghost sound = { λ s f p r few w l.
-        edge_of_both (λ (d : ℕ) (inside : Bool). (if inside then d else K.Kind.silence)) _ (holds (ranges s.region)) p f r _ _
+        edge_of_both (λ (d : ℕ) (inside : Bool). (if inside then d else K.Kind.SILENT)) _ (holds (ranges s.region)) p f r _ _
         (λ a. S.Source.sound _ _ _ _ few w)
         (λ own e. subst (Edge (holds (ranges s.region)) p f) (sym e) (edge_of_region (ranges s.region) p f refl few w)) l };
 
@@ -63,7 +63,7 @@ impl<K: Kind, S: Source<K>> Source<K> for Part<S> {
         if self.region.contains(*packet) {
             self.source.decide(packet)
         } else {
-            K::silent_decision()
+            K::SILENT
         }
     }
 

@@ -24,7 +24,7 @@ pub trait Source<K: Kind> {
         ensures { stops self.now (place field) (values packet.now) result };
 
     // every packet gets a decision of the kind
-    ghost decided: { (s : Self) (p : List ℕ) → Within tops p → meaning s p < K.Kind.size };
+    ghost decided: { (s : Self) (p : List ℕ) → Within tops p → meaning s p < K.Kind.COUNT };
 
     // whatever `edge` may answer is an edge of the meaning
     ghost sound: { (s : Self) (f : ℕ) (p : List ℕ) (r : ℕ) → f < length tops → Within tops p → stops s f p r → Edge (meaning s) p f r };

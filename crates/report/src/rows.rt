@@ -15,7 +15,7 @@ use text::reading::read;
 
 // The rows of the table that the text's rules have, or the text's first fault, or refusal 5.
 pub fn rows_report<K: Kind>(heap: Global, text: &[u8]) -> Result<Output, AllocError>
-    ensures { IfOk result (λ output. shown output ≡ report_of_rows K.Kind.size K.Kind.silence K.Kind.spelling text.now) }
+    ensures { IfOk result (λ output. shown output ≡ report_of_rows K.Kind.COUNT K.Kind.SILENT K.Kind.spelling text.now) }
 {
     let mut book = Book::<K>::open(heap)?;
     if let Err(fault) = read(&mut book, text) {

@@ -20,7 +20,7 @@ const MOST: usize = 64;
 // How many rules there are with that of the line, behind `count` of the lines before it.
 fn count_line<K: Kind>(count: usize, number: usize, text: &[u8]) -> Result<usize, ReadFault>
     requires { length text.now ≤ 16384 }
-    ensures { result ≡ counted number count (line_of (read_word K.Kind.size K.Kind.silence K.Kind.spelling) text.now) }
+    ensures { result ≡ counted number count (line_of (read_word K.Kind.COUNT K.Kind.SILENT K.Kind.spelling) text.now) }
 {
     match line::<K>(text) {
         Err(fault) => Err(ReadFault::Line {
@@ -40,7 +40,7 @@ fn count_line<K: Kind>(count: usize, number: usize, text: &[u8]) -> Result<usize
 // Does the text read well?
 fn check<K: Kind>(text: &[u8]) -> Result<(), ReadFault>
     requires { length text.now ≤ 16384 }
-    ensures { result ≡ (read_of (read_word K.Kind.size K.Kind.silence K.Kind.spelling) text.now).answer }
+    ensures { result ≡ (read_of (read_word K.Kind.COUNT K.Kind.SILENT K.Kind.spelling) text.now).answer }
 {
     let mut lines = Pieces::new(text, b'\n');
     let mut number = 0;
@@ -55,7 +55,7 @@ fn check<K: Kind>(text: &[u8]) -> Result<(), ReadFault>
 // Does the line have a rule that holds the packet?
 fn line_holds<K: Kind>(text: &[u8], packet: Packet) -> bool
     requires { length text.now ≤ 16384 }
-    ensures { result ≡ said_holds (values packet) (line_of (read_word K.Kind.size K.Kind.silence K.Kind.spelling) text.now) }
+    ensures { result ≡ said_holds (values packet) (line_of (read_word K.Kind.COUNT K.Kind.SILENT K.Kind.spelling) text.now) }
 {
     match line::<K>(text) {
         Ok(Some(rule)) => rule.region.contains(packet),
@@ -66,7 +66,7 @@ fn line_holds<K: Kind>(text: &[u8], packet: Packet) -> bool
 // The first line whose rule holds the packet.
 fn first_line<'a, K: Kind>(text: &'a [u8], packet: Packet) -> Option<&'a [u8]>
     requires { length text.now ≤ 16384 }
-    ensures { LineAt result text.entry (first_line (read_word K.Kind.size K.Kind.silence K.Kind.spelling) (values packet) 0 (pieces 10 text.now)) }
+    ensures { LineAt result text.entry (first_line (read_word K.Kind.COUNT K.Kind.SILENT K.Kind.spelling) (values packet) 0 (pieces 10 text.now)) }
 {
     let mut lines = Pieces::new(text, b'\n');
     let mut start = 0;
@@ -85,8 +85,8 @@ pub fn deciding_line<'a, K: Kind>(
     text: &'a [u8],
     packet: Packet,
 ) -> Result<Option<&'a [u8]>, ReadFault>
-    ensures place { Borrowed result text.entry (place_of (read_word K.Kind.size K.Kind.silence K.Kind.spelling) (values packet) text.now) }
-    ensures decision { Decides K.Kind.size K.Kind.silence (read_word K.Kind.size K.Kind.silence K.Kind.spelling) (values packet) (read_of (read_word K.Kind.size K.Kind.silence K.Kind.spelling) text.now).rules result }
+    ensures place { Borrowed result text.entry (place_of (read_word K.Kind.COUNT K.Kind.SILENT K.Kind.spelling) (values packet) text.now) }
+    ensures decision { Decides K.Kind.COUNT K.Kind.SILENT (read_word K.Kind.COUNT K.Kind.SILENT K.Kind.spelling) (values packet) (read_of (read_word K.Kind.COUNT K.Kind.SILENT K.Kind.spelling) text.now).rules result }
 {
     if text.len() > LIMIT {
         return Err(ReadFault::Long);

@@ -25,7 +25,7 @@ fn is_skipped(line: &[u8]) -> bool
 // rule = decision region
 fn rule<K: Kind>(line: &[u8]) -> Result<Rule, LineFault>
     requires { length line.now ≤ 16384 }
-    ensures { result ≡ rule_of (read_word K.Kind.size K.Kind.silence K.Kind.spelling) (pieces 32 line.now) }
+    ensures { result ≡ rule_of (read_word K.Kind.COUNT K.Kind.SILENT K.Kind.spelling) (pieces 32 line.now) }
 {
     let mut words = Lexer::new(line);
     let Some(token) = words.next() else {
@@ -41,7 +41,7 @@ fn rule<K: Kind>(line: &[u8]) -> Result<Rule, LineFault>
 // line = nothing | "#" letters | rule
 pub(crate) fn line<K: Kind>(text: &[u8]) -> Result<Option<Rule>, LineFault>
     requires { length text.now ≤ 16384 }
-    ensures { result ≡ line_of (read_word K.Kind.size K.Kind.silence K.Kind.spelling) text.now }
+    ensures { result ≡ line_of (read_word K.Kind.COUNT K.Kind.SILENT K.Kind.spelling) text.now }
 {
     letters(text)?;
     if is_skipped(text) {

@@ -16,8 +16,8 @@ pub(crate) const LIMIT: usize = 16_384;
 // Adds the rule of a line, if it has one. The line's number is known only here, so that its fault is taken up by a match.
 fn add_line<K: Kind>(book: &mut Book<K>, number: usize, text: &[u8]) -> Result<(), ReadFault>
     requires { length text.now ≤ 16384 }
-    ensures answer { result ≡ (add_line (read_word K.Kind.size K.Kind.silence K.Kind.spelling) number text.now (rules_of book.old)).answer }
-    ensures rules { rules_of book.new ≡ (add_line (read_word K.Kind.size K.Kind.silence K.Kind.spelling) number text.now (rules_of book.old)).rules }
+    ensures answer { result ≡ (add_line (read_word K.Kind.COUNT K.Kind.SILENT K.Kind.spelling) number text.now (rules_of book.old)).answer }
+    ensures rules { rules_of book.new ≡ (add_line (read_word K.Kind.COUNT K.Kind.SILENT K.Kind.spelling) number text.now (rules_of book.old)).rules }
 {
     match line::<K>(text) {
         Err(fault) => Err(ReadFault::Line {
@@ -35,8 +35,8 @@ fn add_line<K: Kind>(book: &mut Book<K>, number: usize, text: &[u8]) -> Result<(
 
 // Empties the book and adds the rules of the text line by line; after a fault the book holds the rules of the lines before.
 pub fn read<K: Kind>(book: &mut Book<K>, text: &[u8]) -> Result<(), ReadFault>
-    ensures answer { result ≡ (read_of (read_word K.Kind.size K.Kind.silence K.Kind.spelling) text.now).answer }
-    ensures rules { rules_of book.new ≡ (read_of (read_word K.Kind.size K.Kind.silence K.Kind.spelling) text.now).rules }
+    ensures answer { result ≡ (read_of (read_word K.Kind.COUNT K.Kind.SILENT K.Kind.spelling) text.now).answer }
+    ensures rules { rules_of book.new ≡ (read_of (read_word K.Kind.COUNT K.Kind.SILENT K.Kind.spelling) text.now).rules }
 {
     book.clear();
     if text.len() > LIMIT {

@@ -28,8 +28,8 @@ pub fn winner<'a, K: Kind>(
     second: &'a [u8],
     packet: Packet,
 ) -> Result<Option<WinningLine<'a>>, WinnerFault>
-    ensures place { Wins result first.entry second.entry (place_of (read_word K.Kind.size K.Kind.silence K.Kind.spelling) (values packet)) }
-    ensures decision { Settles K.Kind.size K.Kind.silence (read_word K.Kind.size K.Kind.silence K.Kind.spelling) (values packet) first.now second.now result }
+    ensures place { Wins result first.entry second.entry (place_of (read_word K.Kind.COUNT K.Kind.SILENT K.Kind.spelling) (values packet)) }
+    ensures decision { Settles K.Kind.COUNT K.Kind.SILENT (read_word K.Kind.COUNT K.Kind.SILENT K.Kind.spelling) (values packet) first.now second.now result }
 {
     let upper = match deciding_line::<K>(first, packet) {
         Ok(line) => line,

@@ -15,9 +15,9 @@ const CAPACITY: usize = 64;
 
 // Is this a decision of the kind other than the silent one?
 fn speaks<K: Kind>(decision: u8) -> bool
-    ensures { result ≡ speaks K.Kind.size K.Kind.silence decision }
+    ensures { result ≡ speaks K.Kind.COUNT K.Kind.SILENT decision }
 {
-    decision < K::decision_count() && decision != K::silent_decision()
+    decision < K::COUNT && decision != K::SILENT
 }
 
 impl<K: Kind> Book<K> {
@@ -34,8 +34,8 @@ impl<K: Kind> Book<K> {
 
     // Puts the rule behind the first `position` rules.
     pub fn add(&mut self, position: usize, rule: Rule) -> Result<(), Refusal>
-        ensures answer { result ≡ (add K.Kind.size K.Kind.silence (rules_of self.old) position rule).answer }
-        ensures rules { rules_of self.new ≡ (add K.Kind.size K.Kind.silence (rules_of self.old) position rule).rules }
+        ensures answer { result ≡ (add K.Kind.COUNT K.Kind.SILENT (rules_of self.old) position rule).answer }
+        ensures rules { rules_of self.new ≡ (add K.Kind.COUNT K.Kind.SILENT (rules_of self.old) position rule).rules }
     {
         if self.rules.len() >= CAPACITY {
             return Err(Refusal::Full);
@@ -81,8 +81,8 @@ impl<K: Kind> Book<K> {
 
     // Changes the decision of the rule at the position.
     pub fn recast(&mut self, position: usize, decision: u8) -> Result<(), Refusal>
-        ensures answer { result ≡ (recast K.Kind.size K.Kind.silence (rules_of self.old) position decision).answer }
-        ensures rules { rules_of self.new ≡ (recast K.Kind.size K.Kind.silence (rules_of self.old) position decision).rules }
+        ensures answer { result ≡ (recast K.Kind.COUNT K.Kind.SILENT (rules_of self.old) position decision).answer }
+        ensures rules { rules_of self.new ≡ (recast K.Kind.COUNT K.Kind.SILENT (rules_of self.old) position decision).rules }
     {
         if position >= self.rules.len() {
             return Err(Refusal::NoSuchPosition);

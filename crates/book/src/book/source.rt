@@ -15,20 +15,20 @@ use packet::{Field, Packet, Range};
 use policy::Source;
 
 impl<K: Kind> Source<K> for Book<K> {
-    ghost meaning = { λ book p. meant K.Kind.size K.Kind.silence (rules_of book) p };
+    ghost meaning = { λ book p. meant K.Kind.COUNT K.Kind.SILENT (rules_of book) p };
 
     ghost stops = { λ book f p r. Stops (rules_of book) f p r };
 
-    ghost decided = { λ s p w. known_of_kind K.Kind.size K.Kind.silence _ K.Kind.bounds.of_kind };
+    ghost decided = { λ s p w. known_of_kind K.Kind.COUNT K.Kind.SILENT _ K.Kind.bounds.of_kind };
 
-    ghost sound = { λ s f p r few w h. stops_edge K.Kind.size K.Kind.silence (rules_of s) f p r few w h };
+    ghost sound = { λ s f p r few w h. stops_edge K.Kind.COUNT K.Kind.SILENT (rules_of s) f p r few w h };
 
     fn decide(&self, packet: &Packet) -> u8 {
-        let decision = first_decision(self.rules.as_slice(), *packet, K::silent_decision());
-        if decision < K::decision_count() {
+        let decision = first_decision(self.rules.as_slice(), *packet, K::SILENT);
+        if decision < K::COUNT {
             decision
         } else {
-            K::silent_decision()
+            K::SILENT
         }
     }
 

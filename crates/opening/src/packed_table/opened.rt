@@ -13,9 +13,9 @@ use std::marker::PhantomData;
 impl<K: Kind> Table<K> {
     // The table of the bytes, or their first damage. Memory for a copy is asked for last.
     pub fn open(heap: Global, bytes: &[u8]) -> Result<Table<K>, OpenRefusal>
-        ensures answer { Opens K.Kind.label K.Kind.size bytes.now result }
-        ensures decides { DecidesAsPacked K.Kind.label K.Kind.size K.Kind.silence bytes.now result }
-        ensures packs_back { PacksToItself K.Kind.label K.Kind.size K.Kind.silence bytes.now result }
+        ensures answer { Opens K.Kind.NUMBER K.Kind.COUNT bytes.now result }
+        ensures decides { DecidesAsPacked K.Kind.NUMBER K.Kind.COUNT K.Kind.SILENT bytes.now result }
+        ensures packs_back { PacksToItself K.Kind.NUMBER K.Kind.COUNT K.Kind.SILENT bytes.now result }
     {
         let rows = inspect::<K>(bytes)?;
         let bytes = Vec::from_slice(heap, bytes)?;

@@ -11,13 +11,13 @@ use packet::{Field, Packet};
 use policy::Source;
 
 impl<K: Kind> Source<K> for Table<K> {
-    ghost meaning = { λ table p. meant K.Kind.size K.Kind.silence (bytes_of table) p };
+    ghost meaning = { λ table p. meant K.Kind.COUNT K.Kind.SILENT (bytes_of table) p };
 
     ghost stops = { λ table f p r. r ≡ range_end (bytes_of table) f p };
 
-    ghost decided = { λ s p w. known_of_kind K.Kind.size K.Kind.silence _ K.Kind.bounds.of_kind };
+    ghost decided = { λ s p w. known_of_kind K.Kind.COUNT K.Kind.SILENT _ K.Kind.bounds.of_kind };
 
-    ghost sound = { λ s f p r few w h. range_end_edge K.Kind.size K.Kind.silence (bytes_of s) s.nested f p r few w h };
+    ghost sound = { λ s f p r few w h. range_end_edge K.Kind.COUNT K.Kind.SILENT (bytes_of s) s.nested f p r few w h };
 
     fn decide(&self, packet: &Packet) -> u8 {
         K::or_silent(row_decision(self.bytes.as_slice(), self.rows, &packet.to_array()))

@@ -26,5 +26,5 @@ returns g c =
     let few : length (rules_of book) ≤ 64 = omega (arith, book.few, book.rules.ok) in
     record {
       bytes = listed_all g.K.Kind.spelling c.rules-rules.result.now _ _ _ c.loop-rule-test.false c.loop-rule.invariant.0 ∙ ap (λ rules. string_bytes c.args.out.now ++ rules_text g.K.Kind.spelling rules) c.rules-rules.ensures;
-      reads_back = reads_back g.K.Kind.size g.K.Kind.silence g.K.Kind.spelling g.met.K.Kind.words (rules_of book) few (all_proper (rules_of book) fit book.forward);
+      reads_back = reads_back g.K.Kind.COUNT g.K.Kind.SILENT g.K.Kind.spelling g.met.K.Kind.words (rules_of book) few (all_proper (rules_of book) fit book.forward);
     }

@@ -46,18 +46,18 @@ module _ (bytes : List ℕ) (k : ℕ) (block : List ℕ) (is : block ≡ block_a
 pub returns-then-number_at-check_sum : goal.returns-then-number_at-check_sum
 returns-then-number_at-check_sum g c =
     let wrong = check_wrong c.args.bytes.now c.args.number c.block_at-block.result.now c.block_at-block.ensures.value c.number_at.result c.check_sum.result c.number_at.ensures.value c.check_sum.ensures c.if-number_at-check_sum.true in
-    ap (λ o. unless o tt) (sym (by_check g.K.Kind.label g.K.Kind.size c.args.bytes.now c.args.number wrong))
+    ap (λ o. unless o tt) (sym (by_check g.K.Kind.NUMBER g.K.Kind.COUNT c.args.bytes.now c.args.number wrong))
 
 pub returns-then-not-is_framed : goal.returns-then-not-is_framed
 returns-then-not-is_framed g c =
     let right = check_right c.args.bytes.now c.args.number c.block_at-block.result.now c.block_at-block.ensures.value c.number_at.result c.check_sum.result c.number_at.ensures.value c.check_sum.ensures c.if-number_at-check_sum.false in
     let frame = framed_is c.args.bytes.now c.args.number c.block_at-block.result.now c.block_at-block.ensures.value c.number_at-count.result c.number_at-count.ensures.value false c.if-not-is_framed.ensures.value in
-    ap (λ o. unless o tt) (sym (by_frame g.K.Kind.label g.K.Kind.size c.args.bytes.now c.args.number right frame))
+    ap (λ o. unless o tt) (sym (by_frame g.K.Kind.NUMBER g.K.Kind.COUNT c.args.bytes.now c.args.number right frame))
 
 pub returns : goal.returns
 returns g c =
     let right = check_right c.args.bytes.now c.args.number c.block_at-block.result.now c.block_at-block.ensures.value c.number_at.result c.check_sum.result c.number_at.ensures.value c.check_sum.ensures c.if-number_at-check_sum.false in
     let frame = framed_is c.args.bytes.now c.args.number c.block_at-block.result.now c.block_at-block.ensures.value c.number_at-count.result c.number_at-count.ensures.value true c.if-not-is_framed.ensures.value in
     let count = c.number_at-count.ensures.value ∙ ap count_in c.block_at-block.ensures.value in
-    let at : ℕ → Option Damage = λ j. found (foreign g.K.Kind.label g.K.Kind.size c.args.bytes.now (18 * c.args.number + j)) (Foreign (18 * c.args.number + j)) in
-    c.check_rows.ensures ∙ ap (λ n. unless (first n at) tt) count ∙ ap (λ o. unless o tt) (sym (by_rows g.K.Kind.label g.K.Kind.size c.args.bytes.now c.args.number right frame))
+    let at : ℕ → Option Damage = λ j. found (foreign g.K.Kind.NUMBER g.K.Kind.COUNT c.args.bytes.now (18 * c.args.number + j)) (Foreign (18 * c.args.number + j)) in
+    c.check_rows.ensures ∙ ap (λ n. unless (first n at) tt) count ∙ ap (λ o. unless o tt) (sym (by_rows g.K.Kind.NUMBER g.K.Kind.COUNT c.args.bytes.now c.args.number right frame))

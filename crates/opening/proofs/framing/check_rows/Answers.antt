@@ -32,8 +32,8 @@ loop-j-init g c = refl
 
 pub returns-then-row-kind_number : goal.returns-then-row-kind_number
 returns-then-row-kind_number g c =
-    let label = g.K.Kind.label in
-    let size = g.K.Kind.size in
+    let label = g.K.Kind.NUMBER in
+    let size = g.K.Kind.COUNT in
     let bytes = c.args.bytes.now in
     let start = c.args.start in
     let j = c.loop-j.j in
@@ -46,8 +46,8 @@ returns-then-row-kind_number g c =
 
 pub loop-j-preserved : goal.loop-j-preserved
 loop-j-preserved g c =
-    let label = g.K.Kind.label in
-    let size = g.K.Kind.size in
+    let label = g.K.Kind.NUMBER in
+    let size = g.K.Kind.COUNT in
     let bytes = c.args.bytes.now in
     let start = c.args.start in
     let j = c.loop-j.j in
@@ -57,6 +57,6 @@ loop-j-preserved g c =
 
 pub returns : goal.returns
 returns g c =
-    let at : ℕ → Option Damage = λ j. found (foreign g.K.Kind.label g.K.Kind.size c.args.bytes.now (c.args.start + j)) (Foreign (c.args.start + j)) in
+    let at : ℕ → Option Damage = λ j. found (foreign g.K.Kind.NUMBER g.K.Kind.COUNT c.args.bytes.now (c.args.start + j)) (Foreign (c.args.start + j)) in
     let all : c.loop-j.j ≡ c.args.count = omega arith in
     ap (λ o. unless o tt) (sym (ap (λ n. first n at) (sym all) ∙ c.loop-j.invariant))

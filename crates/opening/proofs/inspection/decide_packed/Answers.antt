@@ -6,4 +6,4 @@ use Rattle.opening.proofs.inspection.decide_packed.Goals as goal
 pub row_decision-requires : goal.row_decision-requires
 row_decision-requires g c =
     let clean = was_none _ _ _ c.in_ok-rows.ensures.answer in
-    (clean_holds g.K.Kind.label g.K.Kind.size c.args.bytes.now c.in_ok-rows.rows clean.0 clean.1, search rules)
+    (clean_holds g.K.Kind.NUMBER g.K.Kind.COUNT c.args.bytes.now c.in_ok-rows.rows clean.0 clean.1, search rules)

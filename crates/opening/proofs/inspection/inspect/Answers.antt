@@ -38,7 +38,7 @@ returns-then-length-eq0 g c =
       | then-length-eq0-via-else-length-eq0+then-length-ne0 w ↦ or_left _ _ (or_right _ _ (not_from_false _ (ne_eqb _ _ w.if-length-ne0.true)))
       | then-length-eq0-via-else-length-eq0+else-length-ne0+then-length-gt-MOST_BYTES w ↦ or_right _ _ (lt-ltb _ _ w.if-length-gt-MOST_BYTES.true)
     ] in
-    record { answer = by_length g.K.Kind.label g.K.Kind.size bytes wrong; words = says g.K.Kind.label g.K.Kind.size bytes }
+    record { answer = by_length g.K.Kind.NUMBER g.K.Kind.COUNT bytes wrong; words = says g.K.Kind.NUMBER g.K.Kind.COUNT bytes }
 
 pub loop-number-init : goal.loop-number-init
 unfolding first
@@ -46,8 +46,8 @@ loop-number-init g c = refl
 
 pub returns-in_err-check_block : goal.returns-in_err-check_block
 returns-in_err-check_block g c =
-    let label = g.K.Kind.label in
-    let size = g.K.Kind.size in
+    let label = g.K.Kind.NUMBER in
+    let size = g.K.Kind.COUNT in
     let bytes = c.args.bytes.now in
     let good = right_length bytes c.if-length-eq0.false c.if-length-ne0.false c.if-length-gt-MOST_BYTES.false in
     let d = was_damage _ _ tt c.in_err-check_block.ensures in
@@ -58,19 +58,19 @@ returns-in_err-check_block g c =
 
 pub loop-number-preserved : goal.loop-number-preserved
 loop-number-preserved g c =
-    first_step c.loop-number.number (block_damage g.K.Kind.label g.K.Kind.size c.args.bytes.now) c.loop-number.invariant (was_none _ tt tt c.in_ok-check_block.ensures).0
+    first_step c.loop-number.number (block_damage g.K.Kind.NUMBER g.K.Kind.COUNT c.args.bytes.now) c.loop-number.invariant (was_none _ tt tt c.in_ok-check_block.ensures).0
 
 pub check_nesting-requires : goal.check_nesting-requires
 check_nesting-requires g c =
     let bytes = c.args.bytes.now in
     let good = right_length bytes c.if-length-eq0.false c.if-length-ne0.false c.if-length-gt-MOST_BYTES.false in
-    let r = room g.K.Kind.label g.K.Kind.size bytes good c.if-length-eq0.false c.if-length-ne0.false c.loop-number.number c.loop-number-test.false c.loop-number.auto.number-end c.loop-number.invariant c.number_at-last.result c.number_at-last.ensures.value in
+    let r = room g.K.Kind.NUMBER g.K.Kind.COUNT bytes good c.if-length-eq0.false c.if-length-ne0.false c.loop-number.number c.loop-number-test.false c.loop-number.auto.number-end c.loop-number.invariant c.number_at-last.result c.number_at-last.ensures.value in
     (rows_are bytes c.number_at-last.result c.number_at-last.ensures.value, (r.0, r.1))
 
 pub returns-in_err-check_nesting : goal.returns-in_err-check_nesting
 returns-in_err-check_nesting g c =
-    let label = g.K.Kind.label in
-    let size = g.K.Kind.size in
+    let label = g.K.Kind.NUMBER in
+    let size = g.K.Kind.COUNT in
     let bytes = c.args.bytes.now in
     let good = right_length bytes c.if-length-eq0.false c.if-length-ne0.false c.if-length-gt-MOST_BYTES.false in
     let all = blocks label size bytes good c.if-length-eq0.false c.if-length-ne0.false c.loop-number.number c.loop-number-test.false c.loop-number.auto.number-end c.loop-number.invariant c.number_at-last.result c.number_at-last.ensures.value in
@@ -83,13 +83,13 @@ pub check_neighbours-requires : goal.check_neighbours-requires
 check_neighbours-requires g c =
     let bytes = c.args.bytes.now in
     let good = right_length bytes c.if-length-eq0.false c.if-length-ne0.false c.if-length-gt-MOST_BYTES.false in
-    holds g.K.Kind.label g.K.Kind.size bytes good c.if-length-eq0.false c.if-length-ne0.false c.loop-number.number c.loop-number-test.false c.loop-number.auto.number-end c.loop-number.invariant c.number_at-last.result c.number_at-last.ensures.value
+    holds g.K.Kind.NUMBER g.K.Kind.COUNT bytes good c.if-length-eq0.false c.if-length-ne0.false c.loop-number.number c.loop-number-test.false c.loop-number.auto.number-end c.loop-number.invariant c.number_at-last.result c.number_at-last.ensures.value
     (was_none _ tt tt c.in_ok-check_nesting.ensures).0
 
 pub returns-in_err-check_neighbours : goal.returns-in_err-check_neighbours
 returns-in_err-check_neighbours g c =
-    let label = g.K.Kind.label in
-    let size = g.K.Kind.size in
+    let label = g.K.Kind.NUMBER in
+    let size = g.K.Kind.COUNT in
     let bytes = c.args.bytes.now in
     let good = right_length bytes c.if-length-eq0.false c.if-length-ne0.false c.if-length-gt-MOST_BYTES.false in
     let all = blocks label size bytes good c.if-length-eq0.false c.if-length-ne0.false c.loop-number.number c.loop-number-test.false c.loop-number.auto.number-end c.loop-number.invariant c.number_at-last.result c.number_at-last.ensures.value in
@@ -100,8 +100,8 @@ returns-in_err-check_neighbours g c =
 
 pub returns : goal.returns
 returns g c =
-    let label = g.K.Kind.label in
-    let size = g.K.Kind.size in
+    let label = g.K.Kind.NUMBER in
+    let size = g.K.Kind.COUNT in
     let bytes = c.args.bytes.now in
     let good = right_length bytes c.if-length-eq0.false c.if-length-ne0.false c.if-length-gt-MOST_BYTES.false in
     let all = blocks label size bytes good c.if-length-eq0.false c.if-length-ne0.false c.loop-number.number c.loop-number-test.false c.loop-number.auto.number-end c.loop-number.invariant c.number_at-last.result c.number_at-last.ensures.value in

@@ -4,4 +4,4 @@ use Rattle.opening.proofs.inspection.inspect.Given as goal
 
 -- the blocks so far have no damage
 abbrev pub invariant-loop-number : goal.invariant-loop-number
-invariant-loop-number g l = first l.number (block_damage g.K.Kind.label g.K.Kind.size l.bytes) ≡ None
+invariant-loop-number g l = first l.number (block_damage g.K.Kind.NUMBER g.K.Kind.COUNT l.bytes) ≡ None

@@ -25,7 +25,7 @@ returns g c =
     let rows = vec_items c.in_ok-rows.rows in
     let is = c.in_ok-rows.ensures.rows in
     let long : vec_len c.in_ok-rows.rows ≡ length table' = c.in_ok-rows.rows.ok.0 ∙ sym (length-map rows plain) ∙ ap length is in
-    let whole : vec_items c.in-Ok.written ≡ packed g.K.Kind.label table' = c.in-Ok.ensures ∙ ap₂ packed c.kind_number.ensures (ap view c.deref.ensures.value ∙ is) in
+    let whole : vec_items c.in-Ok.written ≡ packed g.K.Kind.NUMBER table' = c.in-Ok.ensures ∙ ap₂ packed c.kind_number.ensures (ap view c.deref.ensures.value ∙ is) in
     record {
       answer = (c.len-3.ensures ∙ long, few_enough _ _ c.div_ceil-blocks.result (omega (arith, long, c.in_ok-rows.ensures.few)) (c.div_ceil-blocks.ensures ∙ ap (λ n. n / 18 + min 1 (n % 18)) (c.len.ensures ∙ long)) c.if-blocks-bytes.false);
       bytes = in_front _ _ _ c.len-2.result (c.copy_from_slice.ensures.after ∙ c.deref-2.ensures.value ∙ whole) (c.len-2.ensures ∙ c.in-Ok.written.ok.0 ∙ ap length whole);

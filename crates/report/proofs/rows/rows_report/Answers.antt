@@ -14,8 +14,8 @@ use Rattle.report.proofs.rows.rows_report.Goals as goal
 
 pub returns-in-Ok : goal.returns-in-Ok
 returns-in-Ok g c =
-    let n = g.K.Kind.size in
-    let silent = g.K.Kind.silence in
+    let n = g.K.Kind.COUNT in
+    let silent = g.K.Kind.SILENT in
     let spelling = g.K.Kind.spelling in
     let rows = vec_items c.in-Ok.rows in
     let few : length (view rows) ≤ most_rows = omega (arith, length-map rows plain, c.in-Ok.ensures.few, c.in-Ok.rows.ok) in

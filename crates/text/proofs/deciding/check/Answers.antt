@@ -16,12 +16,12 @@ loop-line-init g c = (
   [],
   refl,
   cond-false _ _ _ (le-ltb 16384 (length c.args.text.now) (omega arith))
-      ∙ ap (λ ls. lines_from (read_word g.K.Kind.size g.K.Kind.silence g.K.Kind.spelling) 1 ls []) (sym c.new-lines.ensures),
+      ∙ ap (λ ls. lines_from (read_word g.K.Kind.COUNT g.K.Kind.SILENT g.K.Kind.spelling) 1 ls []) (sym c.new-lines.ensures),
 )
 
 pub loop-line-preserved : goal.loop-line-preserved
 loop-line-preserved g c =
-    let read = read_word g.K.Kind.size g.K.Kind.silence g.K.Kind.spelling in
+    let read = read_word g.K.Kind.COUNT g.K.Kind.SILENT g.K.Kind.spelling in
     let now_left = c.in-Some.ensures in
     let rules = c.loop-line.invariant.1 in
     let told = counted_taken (c.loop-line.number + 1) rules c.loop-line.count c.loop-line.invariant.2 (line_of read c.in-Some.line.now) c.in_ok-count.count c.in_ok-count.ensures in (
@@ -34,7 +34,7 @@ loop-line-preserved g c =
 
 pub returns-in_err-count : goal.returns-in_err-count
 returns-in_err-count g c =
-    let read = read_word g.K.Kind.size g.K.Kind.silence g.K.Kind.spelling in
+    let read = read_word g.K.Kind.COUNT g.K.Kind.SILENT g.K.Kind.spelling in
     let now_left = c.in-Some.ensures in
     let rules = c.loop-line.invariant.1 in
     let fault = c.in_err-count.field-0.0 in
@@ -46,7 +46,7 @@ returns-in_err-count g c =
 
 pub returns : goal.returns
 returns g c =
-    let read = read_word g.K.Kind.size g.K.Kind.silence g.K.Kind.spelling in
+    let read = read_word g.K.Kind.COUNT g.K.Kind.SILENT g.K.Kind.spelling in
     let rules = c.loop-line.invariant.1 in
     let is = c.loop-line.invariant.3 ∙ ap (λ ls. lines_from read (c.loop-line.number + 1) ls rules) c.in_default.ensures.0 ∙ lines_end read (c.loop-line.number + 1) rules in
     sym (ap (λ (s : Reading). s.answer) is)

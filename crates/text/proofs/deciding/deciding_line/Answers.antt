@@ -6,6 +6,6 @@ pub returns : goal.returns
 returns g c =
     let well = c.in_ok-check.ensures in
     record {
-      place = line_borrowed g.K.Kind.size g.K.Kind.silence g.K.Kind.spelling (values c.args.packet) c.args.text well c.first_line.result c.first_line.ensures;
-      decision = line_decides g.K.Kind.size g.K.Kind.silence g.K.Kind.spelling (values c.args.packet) c.args.text well c.first_line.result c.first_line.ensures;
+      place = line_borrowed g.K.Kind.COUNT g.K.Kind.SILENT g.K.Kind.spelling (values c.args.packet) c.args.text well c.first_line.result c.first_line.ensures;
+      decision = line_decides g.K.Kind.COUNT g.K.Kind.SILENT g.K.Kind.spelling (values c.args.packet) c.args.text well c.first_line.result c.first_line.ensures;
     }

@@ -11,7 +11,7 @@ pub loop-line-init : goal.loop-line-init
 loop-line-init g c = (
   omega (arith, ap extent c.new-lines.ensures, extent_pieces 10 c.args.text.now),
   cut_whole c.args.text.now (left c.new-lines.result) c.new-lines.ensures,
-  ap (first_line (read_word g.K.Kind.size g.K.Kind.silence g.K.Kind.spelling) (values c.args.packet) 0) (sym c.new-lines.ensures),
+  ap (first_line (read_word g.K.Kind.COUNT g.K.Kind.SILENT g.K.Kind.spelling) (values c.args.packet) 0) (sym c.new-lines.ensures),
 )
 
 pub slice_bounds-result-end : goal.slice_bounds-result-end
@@ -22,7 +22,7 @@ slice_bounds-result-end g c =
 
 pub returns-then-line_holds : goal.returns-then-line_holds
 returns-then-line_holds g c =
-    let read = read_word g.K.Kind.size g.K.Kind.silence g.K.Kind.spelling in
+    let read = read_word g.K.Kind.COUNT g.K.Kind.SILENT g.K.Kind.spelling in
     let now_left = c.in-Some.ensures in
     let cut = subst (Cut c.args.text.now c.loop-line.start) now_left c.loop-line.invariant.1 in
     let within = cut_within c.args.text.now c.loop-line.start c.in-Some.line.now (left c.next.new.self) cut in
@@ -36,7 +36,7 @@ returns-then-line_holds g c =
 
 pub loop-line-preserved : goal.loop-line-preserved
 loop-line-preserved g c =
-    let read = read_word g.K.Kind.size g.K.Kind.silence g.K.Kind.spelling in
+    let read = read_word g.K.Kind.COUNT g.K.Kind.SILENT g.K.Kind.spelling in
     let now_left = c.in-Some.ensures in
     let cut = subst (Cut c.args.text.now c.loop-line.start) now_left c.loop-line.invariant.1 in (
       omega (arith, ap extent now_left, c.loop-line.invariant.0),
@@ -47,5 +47,5 @@ loop-line-preserved g c =
 
 pub returns : goal.returns
 returns g c =
-    let read = read_word g.K.Kind.size g.K.Kind.silence g.K.Kind.spelling in
+    let read = read_word g.K.Kind.COUNT g.K.Kind.SILENT g.K.Kind.spelling in
     c.loop-line.invariant.2 ∙ ap (first_line read (values c.args.packet) c.loop-line.start) c.in_default.ensures.0 ∙ line_none read (values c.args.packet) c.loop-line.start

@@ -10,7 +10,7 @@ abbrev pub invariant-loop-line : goal.invariant-loop-line
 invariant-loop-line g l =
     (l.start + extent (left l.lines) ≤ 16385)
     × Cut l.text l.start (left l.lines)
-    × (first_line (read_word g.K.Kind.size g.K.Kind.silence g.K.Kind.spelling) (values l.packet) 0 (pieces 10 l.text) ≡ first_line (read_word g.K.Kind.size g.K.Kind.silence g.K.Kind.spelling) (values l.packet) l.start (left l.lines))
+    × (first_line (read_word g.K.Kind.COUNT g.K.Kind.SILENT g.K.Kind.spelling) (values l.packet) 0 (pieces 10 l.text) ≡ first_line (read_word g.K.Kind.COUNT g.K.Kind.SILENT g.K.Kind.spelling) (values l.packet) l.start (left l.lines))
 
 abbrev pub decreases-loop-line : goal.decreases-loop-line
 decreases-loop-line g l = extent (left l.lines)

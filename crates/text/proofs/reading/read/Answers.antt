@@ -14,7 +14,7 @@ pub loop-line-init : goal.loop-line-init
 loop-line-init g c = (
   omega (arith, ap extent c.new-lines.ensures, extent_pieces 10 c.args.text.now),
   cond-false _ _ _ (le-ltb 16384 (length c.args.text.now) (omega arith))
-      ∙ ap₂ (λ (ls : List (List ℕ)) (rules : List Rule). lines_from (read_word g.K.Kind.size g.K.Kind.silence g.K.Kind.spelling) 1 ls rules) (sym c.new-lines.ensures) (sym c.clear.ensures),
+      ∙ ap₂ (λ (ls : List (List ℕ)) (rules : List Rule). lines_from (read_word g.K.Kind.COUNT g.K.Kind.SILENT g.K.Kind.spelling) 1 ls rules) (sym c.new-lines.ensures) (sym c.clear.ensures),
 )
 
 pub loop-line-preserved : goal.loop-line-preserved
@@ -22,8 +22,8 @@ loop-line-preserved g c =
     let now_left = c.in-Some.ensures in
     let told = c.in_ok-add_line.ensures in (
       omega (arith, ap extent now_left, c.loop-line.invariant.0),
-      c.loop-line.invariant.1 ∙ ap (λ ls. lines_from (read_word g.K.Kind.size g.K.Kind.silence g.K.Kind.spelling) (c.loop-line.number + 1) ls (rules_of c.loop-line.book)) now_left
-          ∙ lines_more (read_word g.K.Kind.size g.K.Kind.silence g.K.Kind.spelling) (c.loop-line.number + 1) c.in-Some.line.now (left c.next.new.self) (rules_of c.loop-line.book) (rules_of c.add_line.new.book) told.answer told.rules,
+      c.loop-line.invariant.1 ∙ ap (λ ls. lines_from (read_word g.K.Kind.COUNT g.K.Kind.SILENT g.K.Kind.spelling) (c.loop-line.number + 1) ls (rules_of c.loop-line.book)) now_left
+          ∙ lines_more (read_word g.K.Kind.COUNT g.K.Kind.SILENT g.K.Kind.spelling) (c.loop-line.number + 1) c.in-Some.line.now (left c.next.new.self) (rules_of c.loop-line.book) (rules_of c.add_line.new.book) told.answer told.rules,
     )
 
 pub returns-in_err-add_line : goal.returns-in_err-add_line
@@ -31,12 +31,12 @@ returns-in_err-add_line g c =
     let now_left = c.in-Some.ensures in
     let told = c.in_err-add_line.ensures in
     let p = err_from_is_err_and c.from_residual.result c.from_residual.ensures.1 in
-    let is = c.loop-line.invariant.1 ∙ ap (λ ls. lines_from (read_word g.K.Kind.size g.K.Kind.silence g.K.Kind.spelling) (c.loop-line.number + 1) ls (rules_of c.loop-line.book)) now_left
-    ∙ lines_stop (read_word g.K.Kind.size g.K.Kind.silence g.K.Kind.spelling) (c.loop-line.number + 1) c.in-Some.line.now (left c.next.new.self) (rules_of c.loop-line.book) (rules_of c.add_line.new.book) c.in_err-add_line.field-0.0 told.answer told.rules in
+    let is = c.loop-line.invariant.1 ∙ ap (λ ls. lines_from (read_word g.K.Kind.COUNT g.K.Kind.SILENT g.K.Kind.spelling) (c.loop-line.number + 1) ls (rules_of c.loop-line.book)) now_left
+    ∙ lines_stop (read_word g.K.Kind.COUNT g.K.Kind.SILENT g.K.Kind.spelling) (c.loop-line.number + 1) c.in-Some.line.now (left c.next.new.self) (rules_of c.loop-line.book) (rules_of c.add_line.new.book) c.in_err-add_line.field-0.0 told.answer told.rules in
     record { answer = rw (p.1, p.2) (sym (ap (λ (s : Reading). s.answer) is)); rules = sym (ap (λ (s : Reading). s.rules) is) }
 
 pub returns : goal.returns
 returns g c =
-    let is = c.loop-line.invariant.1 ∙ ap (λ ls. lines_from (read_word g.K.Kind.size g.K.Kind.silence g.K.Kind.spelling) (c.loop-line.number + 1) ls (rules_of c.loop-line.book)) c.in_default.ensures.0
+    let is = c.loop-line.invariant.1 ∙ ap (λ ls. lines_from (read_word g.K.Kind.COUNT g.K.Kind.SILENT g.K.Kind.spelling) (c.loop-line.number + 1) ls (rules_of c.loop-line.book)) c.in_default.ensures.0
     ∙ lines_end _ _ _ in
     record { answer = sym (ap (λ (s : Reading). s.answer) is); rules = sym (ap (λ (s : Reading). s.rules) is) }
