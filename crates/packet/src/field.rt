@@ -2,6 +2,8 @@
 ghost use Rattle.std.specs.Prelude.{◌≡◌, ◌<◌, ◌≤◌, length, MatchOption, slice_index};
 ghost use Rattle.packet.specs.Packets.{tops, place};
 
+use crate::packet::Packet;
+
 #[derive(Clone, Copy, PartialEq, Eq, Debug)]
 pub enum Field {
     Source,
@@ -42,10 +44,6 @@ impl Field {
     pub fn top(self) -> u32
         ensures { result ≡ slice_index tops (place self) }
     {
-        match self {
-            Field::Source | Field::Destination => 4_294_967_295,
-            Field::SourcePort | Field::DestinationPort => 65_535,
-            Field::Protocol => 255,
-        }
+        Packet::LARGEST.get(self)
     }
 }

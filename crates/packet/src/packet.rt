@@ -16,11 +16,11 @@ pub struct Packet {
 impl Packet {
     // The packet with the largest value in each field. The one with 0 in each is the default.
     pub const LARGEST: Packet = Packet {
-        source: 4_294_967_295,
-        source_port: 65_535,
-        destination: 4_294_967_295,
-        destination_port: 65_535,
-        protocol: 255,
+        source: u32::MAX,
+        source_port: u16::MAX,
+        destination: u32::MAX,
+        destination_port: u16::MAX,
+        protocol: u8::MAX,
     };
 
     // The value of one field.
@@ -28,13 +28,7 @@ impl Packet {
         ensures value { result ≡ slice_index (values self) (place field) }
         ensures bound { result ≤ slice_index tops (place field) }
     {
-        match field {
-            Field::Source => self.source,
-            Field::SourcePort => u32::from(self.source_port),
-            Field::Destination => self.destination,
-            Field::DestinationPort => u32::from(self.destination_port),
-            Field::Protocol => u32::from(self.protocol),
-        }
+        self.to_array()[field.index()]
     }
 
     // The packet with another value of one field; a value above the field's largest counts as the largest.

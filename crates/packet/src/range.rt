@@ -9,6 +9,18 @@ pub struct Range<T> {
     pub high: T,
 }
 
+impl<T: Into<u32>> Range<T> {
+    // The same range, over wide numbers.
+    pub(crate) fn widened(self) -> Range<u32>
+        ensures { (T.converts self.low result.low) × (T.converts self.high result.high) }
+    {
+        Range {
+            low: self.low.into(),
+            high: self.high.into(),
+        }
+    }
+}
+
 impl Range<u32> {
     // Does the value lie in the range?
     pub fn contains(self, value: u32) -> bool

@@ -1,7 +1,8 @@
 // Regions: one range for each field.
 ghost use Rattle.std.specs.Prelude.{◌≡◌, ◌≤◌, slice_index, slice_set};
+ghost use Rattle.std.specs.List.{zip, list_all};
 ghost use Rattle.packet.specs.Packets.{values, tops, place};
-ghost use Rattle.packet.specs.Regions.{ranges, Fit, holds, any_reversed, clamped, range_at};
+ghost use Rattle.packet.specs.Regions.{ranges, Fit, inside, holds, any_reversed, clamped, range_at};
 
 use crate::field::Field;
 use crate::packet::Packet;
@@ -16,37 +17,14 @@ pub struct Region {
     pub protocol: Range<u8>,
 }
 
-// A range of addresses.
-fn addresses(range: Range<u32>) -> Range<u32>
-    ensures value { result ≡ range }
-    ensures fit { (result.low ≤ 4294967295) × (result.high ≤ 4294967295) }
+// Does each range hold the value at its place?
+fn all_hold(ranges: &[Range<u32>], values: &[u32]) -> bool
+    ensures { result ≡ list_all (λ q. inside q.0 q.1) (zip ranges.now values.now) }
 {
-    Range {
-        low: range.low,
-        high: range.high,
-    }
-}
-
-// A range of ports, over wide numbers.
-fn ports(range: Range<u16>) -> Range<u32>
-    ensures value { result ≡ range }
-    ensures fit { (result.low ≤ 65535) × (result.high ≤ 65535) }
-{
-    Range {
-        low: u32::from(range.low),
-        high: u32::from(range.high),
-    }
-}
-
-// A range of protocols, over wide numbers.
-fn protocols(range: Range<u8>) -> Range<u32>
-    ensures value { result ≡ range }
-    ensures fit { (result.low ≤ 255) × (result.high ≤ 255) }
-{
-    Range {
-        low: u32::from(range.low),
-        high: u32::from(range.high),
-    }
+    ranges
+        .iter()
+        .zip(values)
+        .all(|(range, value)| range.contains(*value))
 }
 
 impl Region {
@@ -54,21 +32,24 @@ impl Region {
     pub const EVERYTHING: Region = Region {
         source: Range {
             low: 0,
-            high: 4_294_967_295,
+            high: Packet::LARGEST.source,
         },
         source_port: Range {
             low: 0,
-            high: 65_535,
+            high: Packet::LARGEST.source_port,
         },
         destination: Range {
             low: 0,
-            high: 4_294_967_295,
+            high: Packet::LARGEST.destination,
         },
         destination_port: Range {
             low: 0,
-            high: 65_535,
+            high: Packet::LARGEST.destination_port,
         },
-        protocol: Range { low: 0, high: 255 },
+        protocol: Range {
+            low: 0,
+            high: Packet::LARGEST.protocol,
+        },
     };
 
     // The ranges of all fields, in their order.
@@ -77,11 +58,11 @@ impl Region {
         ensures fit { Fit tops (ranges self) }
     {
         [
-            addresses(self.source),
-            ports(self.source_port),
-            addresses(self.destination),
-            ports(self.destination_port),
-            protocols(self.protocol),
+            self.source.widened(),
+            self.source_port.widened(),
+            self.destination.widened(),
+            self.destination_port.widened(),
+            self.protocol.widened(),
         ]
     }
 
@@ -89,13 +70,7 @@ impl Region {
     pub fn range(self, field: Field) -> Range<u32>
         ensures { result ≡ range_at (ranges self) (place field) }
     {
-        match field {
-            Field::Source => self.source,
-            Field::SourcePort => ports(self.source_port),
-            Field::Destination => self.destination,
-            Field::DestinationPort => ports(self.destination_port),
-            Field::Protocol => protocols(self.protocol),
-        }
+        self.to_array()[field.index()]
     }
 
     // The region with another range on one field; an end above the field's largest value counts as the largest.
@@ -141,21 +116,13 @@ impl Region {
     pub fn contains(self, packet: Packet) -> bool
         ensures { result ≡ holds (ranges self) (values packet) }
     {
-        self.source.contains(packet.source)
-            && ports(self.source_port).contains(u32::from(packet.source_port))
-            && self.destination.contains(packet.destination)
-            && ports(self.destination_port).contains(u32::from(packet.destination_port))
-            && protocols(self.protocol).contains(u32::from(packet.protocol))
+        all_hold(&self.to_array(), &packet.to_array())
     }
 
     // Is a range of the region reversed?
     pub fn is_reversed(self) -> bool
         ensures { result ≡ any_reversed (ranges self) }
     {
-        self.source.is_reversed()
-            || ports(self.source_port).is_reversed()
-            || self.destination.is_reversed()
-            || ports(self.destination_port).is_reversed()
-            || protocols(self.protocol).is_reversed()
+        self.to_array().iter().any(|range| range.is_reversed())
     }
 }
