@@ -1,4 +1,4 @@
--- What layers decide, and where they may stop. Cited by src/over.rt, src/meet.rt, src/join.rt and src/part.rt. Assumes nothing.
+-- What layers decide, and where they may stop. Cited by src/combined.rt, src/over.rt and src/part.rt. Assumes nothing.
 use Rattle.std.specs.Prelude.{◌≡◌, ℕ, min, cond, List, ◌==◌, slice_index}
 use Rattle.packet.specs.declared.range.Range.{Range}
 use Rattle.packet.specs.Packets.{tops}

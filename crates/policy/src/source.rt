@@ -2,7 +2,6 @@
 ghost use Rattle.std.specs.Prelude.{◌≡◌, ℕ, ◌<◌, List, length};
 ghost use Rattle.packet.specs.Packets.{values, tops, place, Within};
 ghost use Rattle.policy.specs.Edges.{Edge};
-ghost use Rattle.policy.specs.Layers.{Lower};
 
 use decision::Kind;
 use packet::{Field, Packet};
@@ -28,17 +27,4 @@ pub trait Source<K: Kind> {
 
     // whatever `edge` may answer is an edge of the meaning
     ghost sound: { (s : Self) (f : ℕ) (p : List ℕ) (r : ℕ) → f < length tops → Within tops p → stops s f p r → Edge (meaning s) p f r };
-}
-
-// The nearer of both sources' edges.
-pub(crate) fn nearer_edge<K: Kind, A: Source<K>, B: Source<K>>(
-    first: &A,
-    second: &B,
-    field: Field,
-    packet: &Packet,
-) -> u32
-    ensures { Lower (A.Source.stops first.now (place field) (values packet.now)) (B.Source.stops second.now (place field) (values packet.now)) result }
-{
-    let edge = first.edge(field, packet);
-    edge.min(second.edge(field, packet))
 }
