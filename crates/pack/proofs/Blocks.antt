@@ -1,12 +1,12 @@
 -- Blocks, part by part, and how long they are. Assumes nothing.
-use Rattle.std.proofs.Common.{◌≡◌, ℕ, zero, suc, ◌+◌, ◌-◌, ◌*◌, ◌<◌, ◌≤◌, min, ◌⊎◌, List, [], ◌∷◌, ◌++◌, length, get_or, take, drop, replicate, sym, refl, ap, ◌∙◌, ap₂, inl, inr, add-one, arith}
+use Rattle.std.proofs.Common.{◌≡◌, ℕ, zero, suc, ◌+◌, ◌-◌, ◌*◌, ◌<◌, ◌≤◌, min, ◌⊎◌, List, [], ◌∷◌, ◌++◌, length, take, drop, replicate, sym, refl, ap, ◌∙◌, ap₂, inl, inr, add-one, arith}
 use Rattle.std.specs.List.{flat_map}
-use Rattle.std.proofs.lemmas.List.{append-nil, length-append, length-map, length-take, length-drop, length-replicate, take_all, take_at, take-map, drop_all, drop_at, drop-drop, drop-map, flat_map_more, map_more, nil_from_length}
+use Rattle.std.proofs.lemmas.List.{append-nil, length-append, length-map, length-take, length-replicate, take_all, take_at, take-map, drop_all, drop_at, drop-drop, drop-map, nil_from_length}
 use Rattle.std.proofs.lemmas.Bool.{cases_lt}
 use Rattle.table.specs.declared.row.Row.{Row}
 use Rattle.table.specs.Rows.{plain, view}
 use Rattle.blocks.specs.Numbers.{big_endian}
-use Rattle.blocks.specs.Writing.{row_bytes, check_sum, block_body, block, rows_of_block, first_blocks, block_count}
+use Rattle.blocks.specs.Writing.{row_bytes, check_sum, block_body, block, rows_of_block, first_blocks}
 
 -- rows take 28 bytes each
 pub length-rows : (kind : ℕ) (rows : List Row) → length (flat_map (row_bytes kind) (view rows)) ≡ 28 * length rows
@@ -19,13 +19,6 @@ module _ (kind number : ℕ) (rows : List Row) where
   -- the count of rows and the number of the block
   abbrev pub heading : List ℕ
   heading = big_endian 2 (length rows) ++ big_endian 2 number
-
-  -- a heading, and one row more
-  pub row_more : (i : ℕ) (d : Row) (before after : List ℕ) → i < length rows → before ≡ heading ++ flat_map (row_bytes kind) (view (take i rows)) → after ≡ before ++ row_bytes kind (plain (get_or rows i d))
-      → after ≡ heading ++ flat_map (row_bytes kind) (view (take (i + 1) rows))
-  row_more i d before after h b a =
-      a ∙ ap (λ x. x ++ row_bytes kind (plain (get_or rows i d))) b ∙ flat_map_more (row_bytes kind) heading (view (take i rows)) (plain (get_or rows i d))
-      ∙ ap (λ x. heading ++ flat_map (row_bytes kind) x) (sym (map_more plain rows i d h))
 
   -- all rows, and 0 up to byte 508: the block before its check
   pub body_written : (filled body : List ℕ) (n : ℕ) → length rows ≤ 18 → filled ≡ heading ++ flat_map (row_bytes kind) (view rows) → n ≡ length filled → body ≡ take 508 filled ++ replicate (508 - n) 0
@@ -94,7 +87,3 @@ module _ (kind : ℕ) (rows : List Row) where
             ∙ ap (first_blocks kind (view rows)) (sym (add-one n)),
         two.1 ∙ ap (drop 18) l ∙ drop-drop 18 (18 * n) rows ∙ ap (λ m. drop m rows) (omega arith),
       )
-
-  -- no row is left
-  pub blocks_all : (n : ℕ) → length (drop (18 * n) rows) ≡ 0 → 18 * n < length rows + 18 → n ≡ block_count (length (view rows))
-  blocks_all n none few = omega (arith, length-drop (18 * n) rows, length-map rows plain)

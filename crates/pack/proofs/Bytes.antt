@@ -1,5 +1,5 @@
 -- Numbers and ranges as bytes, step by step. Assumes nothing.
-use Rattle.std.proofs.Common.{◌≡◌, ℕ, zero, suc, ◌-◌, ◌/◌, ◌%◌, ◌≤◌, cond, ◌⊎◌, List, [], ◌∷◌, ◌++◌, drop, is_ok, IfOk, Ok, Err, Result, sym, refl, ap, ◌∙◌, ap₂, inl, inr, div-one, arith}
+use Rattle.std.proofs.Common.{◌≡◌, ℕ, zero, suc, ◌-◌, ◌/◌, ◌%◌, ◌≤◌, cond, ◌⊎◌, List, [], ◌∷◌, ◌++◌, drop, is_ok, IfOk, Ok, Err, Result, sym, refl, ap, ◌∙◌, inl, inr, div-one, arith}
 use Rattle.std.proofs.lemmas.List.{append_assoc}
 use Rattle.packet.specs.declared.range.Range.{Range}
 use Rattle.blocks.specs.Numbers.{big_endian}
@@ -27,16 +27,6 @@ extended (Err y) before more same after e h = tt
 pub extended_on : {T E : Type 0} (r : Result T E) (before first out more after : List ℕ) → out ≡ before ++ first → after ≡ cond (is_ok r) (out ++ more) out → IfOk r (λ _. after ≡ before ++ (first ++ more))
 extended_on (Ok x) before first out more after e h = h ∙ ap (λ o. o ++ more) e ∙ append_assoc before first more
 extended_on (Err y) before first out more after e h = tt
-
--- one range more: its two ends in the field's width
-pub range_more : (w : ℕ) (r : Range ℕ) (ws rest : List ℕ) (rs others : List (Range ℕ)) (before mid after whole : List ℕ) → ws ≡ w ∷ rest → rs ≡ r ∷ others
-    → mid ≡ before ++ big_endian w r.low → after ≡ mid ++ big_endian w r.high → before ++ range_bytes ws rs ≡ whole → after ++ range_bytes rest others ≡ whole
-range_more w r ws rest rs others before mid after whole ew er low high e =
-    let left = range_bytes rest others in
-    ap (λ x. x ++ left) (high ∙ ap (λ x. x ++ big_endian w r.high) low)
-    ∙ append_assoc (before ++ big_endian w r.low) (big_endian w r.high) left ∙ append_assoc before (big_endian w r.low) (big_endian w r.high ++ left)
-    ∙ ap (λ x. before ++ x) (sym (append_assoc (big_endian w r.low) (big_endian w r.high) left))
-    ∙ ap₂ (λ (x : List ℕ) (y : List (Range ℕ)). before ++ range_bytes x y) (sym ew) (sym er) ∙ e
 
 -- no range is left
 pub range_all : (ws : List ℕ) (rs : List (Range ℕ)) → (ws ≡ []) ⊎ (rs ≡ []) → range_bytes ws rs ≡ []

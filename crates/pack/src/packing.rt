@@ -27,9 +27,7 @@ pub fn pack<K: Kind, S: Source<K>>(
     if blocks > bytes.len() / BLOCK_BYTES {
         return Err(PackRefusal::TooLarge);
     }
-    let Ok(written) = packed_bytes(heap, K::NUMBER, &rows) else {
-        return Err(PackRefusal::Memory);
-    };
+    let written = packed_bytes(heap, K::NUMBER, &rows)?;
     bytes[0..written.len()].copy_from_slice(&written);
     Ok(rows.len())
 }

@@ -3,7 +3,7 @@ ghost use Rattle.std.specs.Prelude.{◌≡◌};
 ghost use Rattle.table.specs.declared.refusal.PackRefusal.TheVariants.{Memory};
 ghost use Rattle.table.specs.Refusals.{refusal_number};
 
-use std::alloc::AllocFailed;
+use std::alloc::{AllocError, AllocFailed};
 
 #[derive(Clone, Copy, PartialEq, Eq, Debug)]
 pub enum PackRefusal {
@@ -29,6 +29,14 @@ impl<T: Drop> From<AllocFailed<T>> for PackRefusal {
     ghost from_gives = { λ _ r. r ≡ Memory };
 
     fn from(_value: AllocFailed<T>) -> Self {
+        Self::Memory
+    }
+}
+
+impl From<AllocError> for PackRefusal {
+    ghost from_gives = { λ _ r. r ≡ Memory };
+
+    fn from(_value: AllocError) -> Self {
         Self::Memory
     }
 }

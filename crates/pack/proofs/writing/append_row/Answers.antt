@@ -1,18 +1,10 @@
-use Rattle.std.proofs.Common.{ℕ, List, ◌++◌, vec_items, sym, refl, ap, ◌∙◌, subst}
-use Rattle.std.specs.Int.Digits.{AllBelowBase}
+use Rattle.std.proofs.Common.{ℕ, List, ◌++◌, vec_items, sym, refl, ap, ◌∙◌}
 use Rattle.std.proofs.lemmas.List.{append-nil}
 use Rattle.std.proofs.lemmas.Slice.Zip.{either_empty_from_Zip}
 use Rattle.packet.specs.Regions.{ranges}
 use Rattle.blocks.specs.Writing.{widths, range_bytes}
-use Rattle.pack.proofs.Bytes.{extended_on, range_more, range_all}
+use Rattle.pack.proofs.Bytes.{extended_on, range_all}
 use Rattle.pack.proofs.writing.append_row.Goals as goal
-
-pub loop-width-preserved : goal.loop-width-preserved
-loop-width-preserved c =
-    let step = c.in-Some.ensures.steps in (
-      range_more c.in-Some.width.now c.in-Some.range.now _ _ _ _ _ _ _ _ step.0 step.1 c.in_ok-append_number.ensures c.in_ok-append_number-2.ensures c.loop-width.invariant.0,
-      (subst (λ (ws : List ℕ). AllBelowBase 5 ws) step.0 c.loop-width.invariant.1).1,
-    )
 
 pub returns : goal.returns
 returns c =

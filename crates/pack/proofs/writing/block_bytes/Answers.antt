@@ -4,11 +4,8 @@ use Rattle.std.proofs.lemmas.List.{take_all}
 use Rattle.table.specs.declared.row.Row.{Row}
 use Rattle.table.specs.Rows.{view}
 use Rattle.blocks.specs.Writing.{row_bytes, check_sum}
-use Rattle.pack.proofs.Blocks.{heading, row_more, body_written, block_written}
+use Rattle.pack.proofs.Blocks.{heading, body_written, block_written}
 use Rattle.pack.proofs.writing.block_bytes.Goals as goal
-
-pub loop-row-preserved : goal.loop-row-preserved
-loop-row-preserved c = row_more c.args.kind c.args.number c.args.rows.now c.loop-row.row-index _ _ _ c.loop-row-test.true c.loop-row.invariant c.in_ok-append_row.ensures
 
 pub returns : goal.returns
 returns c =

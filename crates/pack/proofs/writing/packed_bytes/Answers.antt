@@ -4,7 +4,7 @@ use Rattle.std.specs.Iterator.Adapters.{enumerate_source, enumerate_count}
 use Rattle.std.proofs.lemmas.List.{length-drop}
 use Rattle.table.specs.Rows.{view}
 use Rattle.blocks.specs.Writing.{block, first_blocks}
-use Rattle.pack.proofs.Blocks.{block_more, blocks_all}
+use Rattle.pack.proofs.Blocks.{block_more}
 use Rattle.pack.proofs.writing.packed_bytes.Goals as goal
 
 pub loop-number-init : goal.loop-number-init
@@ -35,10 +35,3 @@ loop-number-preserved c =
       step.0.0 ∙ inv.2,
       omega (arith, step.2, step.0.1.2, ap length inv.1, length-drop (18 * n) rows),
     )
-
-pub returns : goal.returns
-returns c =
-    let rows = c.args.rows.now in
-    let inv = c.loop-number.invariant in
-    let none = sym (ap length inv.1) ∙ c.in-None.ensures.steps.0.1.0 in
-    inv.0 ∙ ap (first_blocks c.args.kind (view rows)) (blocks_all c.args.kind rows (enumerate_count c.loop-number.number-iterator) none inv.3)
