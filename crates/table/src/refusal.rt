@@ -28,8 +28,8 @@ impl PackRefusal {
 impl<T: Drop> From<AllocFailed<T>> for PackRefusal {
     ghost from_gives = { λ _ r. r ≡ Memory };
 
-    fn from(_value: AllocFailed<T>) -> Self {
-        Self::Memory
+    fn from(failed: AllocFailed<T>) -> Self {
+        AllocError::from(failed).into()
     }
 }
 
