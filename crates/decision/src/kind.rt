@@ -1,7 +1,6 @@
 // The interface of a decision kind.
 ghost use Rattle.std.specs.Prelude.{◌≡◌, ℕ, Bool, List};
-ghost use Rattle.std.specs.Str.{bytes_eq};
-ghost use Rattle.decision.specs.Kinds.{Bounds, Lattice, Foreign, Words, known, read_word};
+ghost use Rattle.decision.specs.Kinds.{Bounds, Lattice, Foreign, Words, known, both, read_word};
 
 // A kind's decisions are the numbers below its count. Each constant has a ghost member of its name beside it, by which contracts
 // name its value.
@@ -62,7 +61,7 @@ pub trait Kind {
         ensures { result ≡ read_word COUNT SILENT spelling word.now }
     {
         for decision in (0..Self::COUNT).rev() {
-            if decision != Self::SILENT && is_same(Self::word(decision), word) {
+            if decision != Self::SILENT && Self::word(decision).as_bytes() == word {
                 return Some(decision);
             }
         }
@@ -78,9 +77,9 @@ pub trait Kind {
     ghost words: { Words COUNT SILENT spelling };
 }
 
-// Are the text's bytes these?
-fn is_same(text: &str, bytes: &[u8]) -> bool
-    ensures { result ≡ bytes_eq text.now bytes.now }
+// Are both numbers below the count, that is, decisions?
+pub(crate) fn are_below(count: u8, a: u8, b: u8) -> bool
+    ensures { result ≡ both count a b }
 {
-    text.as_bytes() == bytes
+    a < count && b < count
 }

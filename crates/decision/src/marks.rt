@@ -5,7 +5,7 @@ ghost use Rattle.std.specs.Prelude.{refl};
 ghost use Rattle.decision.specs.Tested.{foreign_known, lattice_tested, words_tested};
 ghost use Rattle.std.proofs.Common.{lit<, lit≤};
 
-use crate::kind::Kind;
+use crate::kind::{Kind, are_below};
 
 pub struct Marks;
 
@@ -39,11 +39,11 @@ impl Kind for Marks {
     ghost words = { words_tested _ _ _ refl refl refl refl };
 
     fn below(a: u8, b: u8) -> bool {
-        a < Self::COUNT && b < Self::COUNT && a & b == a
+        are_below(Self::COUNT, a, b) && a & b == a
     }
 
     fn meet(a: u8, b: u8) -> u8 {
-        if a < Self::COUNT && b < Self::COUNT {
+        if are_below(Self::COUNT, a, b) {
             a & b
         } else {
             Self::SILENT
@@ -51,7 +51,7 @@ impl Kind for Marks {
     }
 
     fn join(a: u8, b: u8) -> u8 {
-        if a < Self::COUNT && b < Self::COUNT {
+        if are_below(Self::COUNT, a, b) {
             a | b
         } else {
             Self::SILENT

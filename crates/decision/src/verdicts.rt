@@ -5,7 +5,7 @@ ghost use Rattle.decision.specs.Verdicts.{verdict_word};
 ghost use Rattle.decision.specs.Tested.{foreign_known, lattice_tested, words_tested};
 ghost use Rattle.std.proofs.Common.{lit<, lit≤};
 
-use crate::kind::Kind;
+use crate::kind::{Kind, are_below};
 
 pub struct Verdicts;
 
@@ -39,11 +39,11 @@ impl Kind for Verdicts {
     ghost words = { words_tested _ _ _ refl refl refl refl };
 
     fn below(a: u8, b: u8) -> bool {
-        a < Self::COUNT && b < Self::COUNT && a <= b
+        are_below(Self::COUNT, a, b) && a <= b
     }
 
     fn meet(a: u8, b: u8) -> u8 {
-        if a < Self::COUNT && b < Self::COUNT {
+        if are_below(Self::COUNT, a, b) {
             a.min(b)
         } else {
             Self::SILENT
@@ -51,7 +51,7 @@ impl Kind for Verdicts {
     }
 
     fn join(a: u8, b: u8) -> u8 {
-        if a < Self::COUNT && b < Self::COUNT {
+        if are_below(Self::COUNT, a, b) {
             a.max(b)
         } else {
             Self::SILENT
