@@ -28,3 +28,22 @@ pub trait Source<K: Kind> {
     // whatever `edge` may answer is an edge of the meaning
     ghost sound: { (s : Self) (f : ℕ) (p : List ℕ) (r : ℕ) → f < length tops → Within tops p → stops s f p r → Edge (meaning s) p f r };
 }
+
+// A borrowed source is a source, so that layers can hold what others own.
+impl<'a, K: Kind, S: Source<K>> Source<K> for &'a S {
+    ghost meaning = { λ s p. S.Source.meaning s.now p };
+
+    ghost stops = { λ s f p r. S.Source.stops s.now f p r };
+
+    ghost decided = { λ s p w. S.Source.decided s.now p w };
+
+    ghost sound = { λ s f p r few w h. S.Source.sound s.now f p r few w h };
+
+    fn decide(&self, packet: &Packet) -> u8 {
+        S::decide(*self, packet)
+    }
+
+    fn edge(&self, field: Field, packet: &Packet) -> u32 {
+        S::edge(*self, field, packet)
+    }
+}
