@@ -41,7 +41,7 @@ pub trait Kind {
     fn join(a: u8, b: u8) -> u8
         ensures { result ≡ upper a b };
 
-    fn word<'a>(decision: u8) -> &'a str
+    fn word(decision: u8) -> &'static str
         ensures { result.now ≡ spelling decision };
 
     // The decision itself, or the silent one for a number that is no decision of the kind.

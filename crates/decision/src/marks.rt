@@ -58,7 +58,7 @@ impl Kind for Marks {
         }
     }
 
-    fn word<'a>(decision: u8) -> &'a str {
+    fn word(decision: u8) -> &'static str {
         match decision {
             1 => "log",
             2 => "meter",

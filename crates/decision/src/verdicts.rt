@@ -58,7 +58,7 @@ impl Kind for Verdicts {
         }
     }
 
-    fn word<'a>(decision: u8) -> &'a str {
+    fn word(decision: u8) -> &'static str {
         match decision {
             0 => "deny",
             2 => "allow",
