@@ -4,6 +4,7 @@ use Rattle.std.proofs.Math.Path.{refl, sym, ap, ap₂}
 use Rattle.std.proofs.Common.{◌∙◌}
 use native.Mathlib.Omega.{arith}
 use Rattle.std.proofs.lemmas.Bool.{false≢true, and_parts, and_from, eqb-true, leb-true, le-leb}
+use Rattle.decision.specs.Kinds.{known}
 use Rattle.packet.specs.declared.range.Range.{Range}
 use Rattle.packet.specs.Packets.{Within, tops}
 use Rattle.packet.specs.Regions.{ranges, range_at, inside, holds}
@@ -11,7 +12,7 @@ use Rattle.packet.proofs.Values.{long, at_most}
 use Rattle.packet.proofs.Holding.{holds_at, run_alike, run_from}
 use Rattle.policy.specs.Edges.{Alike, Edge}
 use Rattle.book.specs.declared.rule.Rule.{Rule}
-use Rattle.book.specs.Deciding.{first, known, meant}
+use Rattle.book.specs.Deciding.{first, meant}
 use Rattle.book.specs.Reach.{run, nearest, in_play, whole, all_whole, settles, looked_at, Stops}
 
 -- whole ranges hold whatever values there are
