@@ -31,14 +31,14 @@ fn list(rules: &[Rule], entries: &mut [Finding]) -> usize
     ensures packets { Faithful rules.now }
 {
     let mut count = 0;
-    for first in 0..rules.len() {
-        let rule = rules[first];
-        for second in first + 1..rules.len() {
-            if let Some(hiding) = hiding(rule, rules[second]) {
+    for (first, rule) in rules.iter().enumerate() {
+        let later = &rules[first + 1..];
+        for (ahead, other) in later.iter().enumerate() {
+            if let Some(hiding) = hiding(*rule, *other) {
                 if count < entries.len() {
                     entries[count] = Finding {
                         first,
-                        second,
+                        second: first + 1 + ahead,
                         hiding,
                     };
                 }

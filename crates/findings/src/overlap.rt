@@ -28,17 +28,12 @@ pub fn shares(first: Region, second: Region) -> bool
 fn reach_over(wide: &[Range<u32>], narrow: &[Range<u32>]) -> bool
     ensures { result ≡ list_all (λ pair. nat_le pair.0.low pair.1.low && nat_le pair.1.high pair.0.high) (zip wide.now narrow.now) }
 {
-    wide.iter()
-        .zip(narrow)
-        .all(|(wide, narrow)| wide.low <= narrow.low && narrow.high <= wide.high)
+    wide.iter().zip(narrow).all(|(wide, narrow)| wide.low <= narrow.low && narrow.high <= wide.high)
 }
 
 // Does each range share a value with the other one at its place?
 fn meet(first: &[Range<u32>], second: &[Range<u32>]) -> bool
     ensures { result ≡ list_all (λ pair. nat_le (max pair.0.low pair.1.low) (min pair.0.high pair.1.high)) (zip first.now second.now) }
 {
-    first
-        .iter()
-        .zip(second)
-        .all(|(one, other)| one.low.max(other.low) <= one.high.min(other.high))
+    first.iter().zip(second).all(|(one, other)| one.low.max(other.low) <= one.high.min(other.high))
 }
