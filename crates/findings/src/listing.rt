@@ -10,12 +10,14 @@ use book::{Book, Rule};
 use decision::Kind;
 
 // Writes the book's findings to the first entries and answers how many there are; the other entries stay.
+#[tactic(auto, using(crate::proofs::Listed::written_over))]
 pub fn findings<K: Kind>(book: &Book<K>, entries: &mut [Finding]) -> Result<usize, TooShort>
     ensures answer { result ≡ count_of (findings_of (rules_of book.now)) (length entries.old) }
     ensures entries { entries.new ≡ entries_after (findings_of (rules_of book.now)) entries.old }
     ensures packets { Faithful (rules_of book.now) }
 {
     let rules = book.rules();
+    // With no entries to write to, they are only counted.
     let count = list(rules, &mut []);
     if count > entries.len() {
         return Err(TooShort);
