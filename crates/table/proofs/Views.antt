@@ -36,19 +36,20 @@ cut_all f range part rows i h v =
     let n : length (view part) ≤ i = omega (arith, length-map part plain) in
     v ∙ ap₂ (λ (a b : List tables.Row). map (cut f range) a ++ b) (take_all i (view part) n) (drop_all i (view part) n) ∙ append-nil (map (cut f range) (view part))
 
--- and are put back
-pub cut_put : (f : ℕ) (range : Range ℕ) (rows part : List Row) (start end : ℕ) → start ≤ end
-    → view part ≡ map (cut f range) (view (between start end rows))
-    → view (put_mid start (end - start) rows part) ≡ cut_between start end f range (view rows)
-cut_put f range rows part start end h v =
-    let after = drop (end - start) (drop start rows) in
+-- and are put back where they were lent
+pub cut_put : (f : ℕ) (range : Range ℕ) (rows lent part : List Row) (start end : ℕ) → start ≤ end → lent ≡ rows
+    → view part ≡ map (cut f range) (view (between start end lent))
+    → view (put_mid start (end - start) lent part) ≡ cut_between start end f range (view rows)
+cut_put f range rows lent part start end h e v =
+    let after = drop (end - start) (drop start lent) in
     let k : start + (end - start) ≡ end = omega arith in
-    map-append plain (take start rows) (part ++ after)
-    ∙ ap (λ (a : List tables.Row). view (take start rows) ++ a) (map-append plain part after)
-    ∙ sym (append_assoc (view (take start rows)) (view part) (view after))
+    map-append plain (take start lent) (part ++ after)
+    ∙ ap (λ (a : List tables.Row). view (take start lent) ++ a) (map-append plain part after)
+    ∙ sym (append_assoc (view (take start lent)) (view part) (view after))
     ∙ ap₂ (λ (a b : List tables.Row). a ++ b)
-    (ap₂ (λ (a b : List tables.Row). a ++ b) (sym (take-map plain start rows)) (v ∙ ap (map (cut f range)) (view_between rows start end)))
-    (ap view (drop-drop (end - start) start rows ∙ ap (λ n. drop n rows) k) ∙ sym (drop-map plain end rows))
+    (ap₂ (λ (a b : List tables.Row). a ++ b) (sym (take-map plain start lent)) (v ∙ ap (map (cut f range)) (view_between lent start end)))
+    (ap view (drop-drop (end - start) start lent ∙ ap (λ n. drop n lent) k) ∙ sym (drop-map plain end lent))
+    ∙ ap (λ (a : List Row). cut_between start end f range (view a)) e
 
 -- a region from its ranges
 region_of : List (Range ℕ) → Region

@@ -1,11 +1,11 @@
 // The rows of a source.
-ghost use Rattle.std.specs.Prelude.{◌≡◌, ◌+◌, ◌≤◌, ◌++◌, length, drop, IfOk, IfErr, vec_len, Decides, OnOk};
+ghost use Rattle.std.specs.Prelude.{◌≡◌, ◌+◌, ◌≤◌, ◌++◌, map, length, drop, IfOk, IfErr, vec_len, Decides, OnOk};
 ghost use Rattle.std.specs.List.{between};
 ghost use Rattle.packet.specs.Packets.{values, tops, place};
 ghost use Rattle.theory.specs.Tables.{table, Canonical};
 ghost use Rattle.table.specs.Rows.{view, most_rows};
 ghost use Rattle.table.specs.Refusals.{Refuses};
-ghost use Rattle.table.specs.Parts.{table_from, uncut, cut_between};
+ghost use Rattle.table.specs.Parts.{table_from, uncut, cut};
 
 use crate::refusal::PackRefusal;
 use crate::row::Row;
@@ -23,15 +23,8 @@ pub fn rows_of<K: Kind, S: Source<K>>(heap: Global, source: &S) -> Result<Vec<Ro
     ensures few { IfOk result (λ rows. vec_len rows ≤ most_rows) }
     ensures refused { IfErr result (λ e. Refuses e (length (table tops (S.Source.meaning source.now)))) }
 {
-    let earliest = Packet {
-        source: 0,
-        source_port: 0,
-        destination: 0,
-        destination_port: 0,
-        protocol: 0,
-    };
     let mut rows = Vec::new(heap);
-    append_table(&mut rows, source, 0, earliest)?;
+    append_table(&mut rows, source, 0, Packet::default())?;
     Ok(rows)
 }
 
@@ -71,14 +64,13 @@ fn append_table<K: Kind, S: Source<K>>(
             if rows.len() - base > MOST_ROWS {
                 return Err(PackRefusal::TooLarge);
             }
-            narrow(rows, start, end, here, Range { low, high });
+            narrow(&mut rows[start..end], here, Range { low, high });
             start = end;
             low = high + 1;
         }
         high = source.edge(here, &next);
     }
-    let end = rows.len();
-    narrow(rows, start, end, here, Range { low, high });
+    narrow(&mut rows[start..], here, Range { low, high });
     Ok(())
 }
 
@@ -90,13 +82,11 @@ fn is_repeated(rows: &[Row], start: usize, end: usize) -> bool
     &rows[start..end] == &rows[end..]
 }
 
-// Gives the rows from `start` to `end` this range on the field.
-fn narrow(rows: &mut Vec<Row>, start: usize, end: usize, field: Field, range: Range<u32>)
-    requires { (start ≤ end) × (end ≤ vec_len rows.old) }
-    ensures rows { view rows.new.items ≡ cut_between start end (place field) range (view rows.old.items) }
-    ensures len { vec_len rows.new ≡ vec_len rows.old }
+// Gives the rows this range on the field.
+fn narrow(rows: &mut [Row], field: Field, range: Range<u32>)
+    ensures { view rows.new ≡ map (cut (place field) range) (view rows.old) }
 {
-    for row in rows[start..end].iter_mut() {
+    for row in rows.iter_mut() {
         row.region = row.region.with(field, range);
     }
 }

@@ -1,6 +1,7 @@
-use Rattle.std.proofs.Common.{◌≡◌, ◌+◌, ◌≤◌, List, ◌++◌, length, get_or, take, drop, vec_items, vec_len, Decides, sym, refl, ap, ◌∙◌, subst, arith, rules}
+use Rattle.std.proofs.Common.{◌≡◌, ◌+◌, ◌-◌, ◌≤◌, List, ◌++◌, length, get_or, take, drop, vec_items, vec_len, Decides, sym, refl, ap, ◌∙◌, subst, arith, rules}
+use borrow.Rule.Slice.PartMut.{put_mid}
 use Rattle.std.specs.List.{between}
-use Rattle.std.proofs.lemmas.List.{length-map, length-take, take_at, take-map}
+use Rattle.std.proofs.lemmas.List.{places, with_items_is, length-map, length-take, take_at, take-map}
 use Rattle.packet.specs.Packets.{values, tops, place, Within}
 use Rattle.packet.proofs.Values.{place_few}
 use Rattle.policy.specs.Edges.{Edge}
@@ -9,6 +10,7 @@ use Rattle.table.specs.declared.row.Row.{Row}
 use Rattle.table.specs.Rows.{plain, view, most_rows}
 use Rattle.table.specs.Parts.{table_from, uncut, cut_between}
 use Rattle.table.proofs.Exits.{none_made, handed_on}
+use Rattle.table.proofs.Views.{cut_put}
 use Rattle.table.proofs.Built.{built_as}
 use Rattle.table.proofs.Steps.{leaf, cell_counts, edge_from, first_step, next_step, all_count, last_step}
 use Rattle.table.proofs.rows.+append_table.Goals as goal
@@ -115,11 +117,11 @@ loop-high-preserved g t c =
         omega (arith, c.loop-high.invariant, few, ap vec_len w.rows-is, w.truncate.ensures.len, c.len-end.ensures),
       )
       | else-is_repeated+else-len-base-gt-MOST_ROWS w ↦ (
-        built_as _ _ _ _ _ _ _ _ _ _ _ (ap (λ v. view (vec_items v)) w.rows-is ∙ w.narrow.ensures.rows) w.start-is w.low-is (two.1 w.if-is_repeated.false),
+        built_as _ _ _ _ _ _ _ _ _ _ _ (ap (λ v. view (vec_items v)) w.rows-is ∙ ap view (with_items_is c.append_table-in-loop-high.new.rows (put_mid c.loop-high.start (c.len-end.result - c.loop-high.start) w.deref_mut.result.now w.narrow.new.rows) (search (rules, places))) ∙ cut_put _ _ all w.deref_mut.result.now w.narrow.new.rows c.loop-high.start c.len-end.result (omega (arith, c.loop-high.invariant, c.len-end.ensures)) w.deref_mut.ensures.value w.narrow.ensures) w.start-is w.low-is (two.1 w.if-is_repeated.false),
         omega (arith, edge.most, c.top-top.ensures),
         omega (arith, c.loop-high.invariant, w.start-is, c.len-end.ensures),
-        omega (arith, few, w.start-is, ap vec_len w.rows-is, w.narrow.ensures.len, c.len-end.ensures),
-        omega (arith, ap vec_len w.rows-is, w.narrow.ensures.len, w.len.ensures, w.if-len-base-gt-MOST_ROWS.false),
+        omega (arith, few, w.start-is, ap vec_len w.rows-is, c.len-end.ensures),
+        omega (arith, ap vec_len w.rows-is, w.len.ensures, w.if-len-base-gt-MOST_ROWS.false),
       )
     ]
   where
@@ -141,20 +143,25 @@ loop-high-preserved g t c =
 
 pub returns : goal.returns
 returns g t c = record {
-  rows = c.narrow-2.ensures.rows ∙ whole ∙ ap (λ (a : List tables.Row). a ++ uncut c.args.field (table_from (g.S.Source.meaning c.args.source.now) c.args.field (values c.args.at))) was;
-  few = omega (arith, c.narrow-2.ensures.len, c.loop-high.invariant, c.len-base.ensures);
+  rows = ap view (with_items_is c.loop-high.rows (put_mid c.loop-high.start (length lent - c.loop-high.start) lent c.narrow-2.new.rows) (search (rules, places)))
+      ∙ cut_put _ _ (vec_items c.loop-high.rows) lent c.narrow-2.new.rows c.loop-high.start (length lent) (omega (arith, c.loop-high.invariant, c.deref_mut-2.ensures.len)) c.deref_mut-2.ensures.value c.narrow-2.ensures
+      ∙ whole ∙ ap (λ (a : List tables.Row). a ++ uncut c.args.field (table_from (g.S.Source.meaning c.args.source.now) c.args.field (values c.args.at))) was;
+  few = omega (arith, c.loop-high.invariant, c.len-base.ensures);
   refused = tt;
 }
   where
+    lent : List Row
+    lent = c.deref_mut-2.result.now
+
     was : take c.len-base.result (view (vec_items c.append_table.new.rows)) ≡ view (vec_items c.args.rows.now)
     was =
         let n : length (view (vec_items c.args.rows.now)) ≡ c.len-base.result = omega (arith, length-map (vec_items c.args.rows.now) plain, c.args.rows.now.ok, c.len-base.ensures) in
         ap (take c.len-base.result) c.in_ok-append_table.ensures.rows ∙ take_at (view (vec_items c.args.rows.now)) _ _ n
 
-    long : length (view (vec_items c.loop-high.rows)) ≡ c.len-end-2.result
-    long = omega (arith, length-map (vec_items c.loop-high.rows) plain, c.loop-high.rows.ok, c.len-end-2.ensures)
+    long : length (view (vec_items c.loop-high.rows)) ≡ length lent
+    long = omega (arith, length-map (vec_items c.loop-high.rows) plain, c.loop-high.rows.ok, c.deref_mut-2.ensures.len)
 
-    whole : cut_between c.loop-high.start c.len-end-2.result (place c.in-Some.here) (record { low = c.loop-high.low; high = c.loop-high.high }) (view (vec_items c.loop-high.rows))
+    whole : cut_between c.loop-high.start (length lent) (place c.in-Some.here) (record { low = c.loop-high.low; high = c.loop-high.high }) (view (vec_items c.loop-high.rows))
         ≡ take c.len-base.result (view (vec_items c.append_table.new.rows)) ++ uncut c.args.field (table_from (g.S.Source.meaning c.args.source.now) c.args.field (values c.args.at))
     whole = last_step (g.S.Source.meaning c.args.source.now) c.in-Some.here c.args.field c.in-Some.ensures c.args.at (take c.len-base.result (view (vec_items c.append_table.new.rows))) (view (vec_items c.loop-high.rows))
-        c.loop-high.start c.loop-high.low c.loop-high.high c.loop-high.invariant.0 (omega (arith, c.loop-high.invariant.1, c.loop-high-test.false, c.top-top.ensures)) c.len-end-2.result long
+        c.loop-high.start c.loop-high.low c.loop-high.high c.loop-high.invariant.0 (omega (arith, c.loop-high.invariant.1, c.loop-high-test.false, c.top-top.ensures)) (length lent) long
