@@ -1,8 +1,9 @@
 -- The view of rows. Assumes nothing.
-use Rattle.std.proofs.Common.{◌≡◌, ℕ, ◌+◌, ◌-◌, ◌<◌, ◌≤◌, List, [], ◌∷◌, ◌++◌, map, length, get_or, take, drop, set, sym, refl, ap, ◌∙◌, ap₂, arith}
+use Rattle.std.proofs.Common.{◌≡◌, ℕ, ◌+◌, ◌-◌, ◌<◌, ◌≤◌, Bool, List, [], ◌∷◌, ◌++◌, map, length, get_or, take, drop, set, Decides, sym, refl, ap, ◌∙◌, ap₂, arith}
 use borrow.Rule.Slice.PartMut.{put_mid}
 use Rattle.std.specs.List.{between}
-use Rattle.std.proofs.lemmas.List.{append-nil, append_assoc, map-append, map-set, get_or-map, length-map, take_all, take-map, drop_all, drop-drop, drop-map}
+use Rattle.std.proofs.lemmas.List.{append-nil, append_assoc, map-append, map-set, get_or-map, length-map, take_all, take_rest, take-map, drop_all, drop-drop, drop-map}
+use Rattle.std.proofs.lemmas.Bool.Decides.{Decides-like}
 use Rattle.std.proofs.lemmas.List.Edits.{map_over_more}
 use Rattle.packet.specs.declared.range.Range.{Range}
 use Rattle.packet.specs.declared.region.Region.{Region}
@@ -68,3 +69,12 @@ unview_view (r ∷ rows) = ap (λ (a : List Row). r ∷ a) (unview_view rows)
 -- rows that mean the same are the same
 pub view_tells : (a b : List Row) → view a ≡ view b → a ≡ b
 view_tells a b e = sym (unview_view a) ∙ ap unview e ∙ unview_view b
+
+-- two neighbouring parts that mean the same are parts of what is seen that are the same
+pub parts_tell : (rows lent rest : List Row) (start end : ℕ) (same : Bool) → lent ≡ rows → rest ≡ rows
+    → Decides same (view (between start end lent) ≡ view (between end (length rest) rest))
+    → Decides same (between start end (view rows) ≡ drop end (view rows))
+parts_tell rows lent rest start end same e i d =
+    let a = view_between lent start end ∙ ap (λ (x : List Row). between start end (view x)) e in
+    let b = ap view (take_rest rest end) ∙ sym (drop-map plain end rest) ∙ ap (λ (x : List Row). drop end (view x)) i in
+    Decides-like same (λ h. sym a ∙ h ∙ b) (λ h. a ∙ h ∙ sym b) d

@@ -1,6 +1,5 @@
 // The rows of a source.
 ghost use Rattle.std.specs.Prelude.{◌≡◌, ◌+◌, ◌≤◌, ◌++◌, map, length, drop, IfOk, IfErr, vec_len, Decides, OnOk};
-ghost use Rattle.std.specs.List.{between};
 ghost use Rattle.packet.specs.Packets.{values, tops, place};
 ghost use Rattle.theory.specs.Tables.{table, Canonical};
 ghost use Rattle.table.specs.Rows.{view, most_rows};
@@ -58,7 +57,7 @@ fn append_table<K: Kind, S: Source<K>>(
         let end = rows.len();
         let next = at.with(here, high + 1);
         append_table(rows, source, field + 1, next)?;
-        if is_repeated(rows, start, end) {
+        if are_same(&rows[start..end], &rows[end..]) {
             rows.truncate(end);
         } else {
             if rows.len() - base > MOST_ROWS {
@@ -74,12 +73,11 @@ fn append_table<K: Kind, S: Source<K>>(
     Ok(())
 }
 
-// Are the rows from `start` to `end` the same as those from `end` on?
-fn is_repeated(rows: &[Row], start: usize, end: usize) -> bool
-    requires { (start ≤ end) × (end ≤ length rows.now) }
-    ensures { Decides result (between start end (view rows.now) ≡ drop end (view rows.now)) }
+// Are the rows the same?
+fn are_same(first: &[Row], second: &[Row]) -> bool
+    ensures { Decides result (view first.now ≡ view second.now) }
 {
-    &rows[start..end] == &rows[end..]
+    first == second
 }
 
 // Gives the rows this range on the field.

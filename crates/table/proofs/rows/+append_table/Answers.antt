@@ -1,4 +1,4 @@
-use Rattle.std.proofs.Common.{◌≡◌, ◌+◌, ◌-◌, ◌≤◌, List, ◌++◌, length, get_or, take, drop, vec_items, vec_len, Decides, sym, refl, ap, ◌∙◌, subst, arith, rules}
+use Rattle.std.proofs.Common.{◌≡◌, ◌+◌, ◌-◌, ◌≤◌, List, ◌++◌, length, get_or, take, drop, vec_items, vec_len, Decides, sym, refl, ap, ◌∙◌, arith, rules}
 use borrow.Rule.Slice.PartMut.{put_mid}
 use Rattle.std.specs.List.{between}
 use Rattle.std.proofs.lemmas.List.{places, with_items_is, length-map, length-take, take_at, take-map}
@@ -10,11 +10,11 @@ use Rattle.table.specs.declared.row.Row.{Row}
 use Rattle.table.specs.Rows.{plain, view, most_rows}
 use Rattle.table.specs.Parts.{table_from, uncut, cut_between}
 use Rattle.table.proofs.Exits.{none_made, handed_on}
-use Rattle.table.proofs.Views.{cut_put}
+use Rattle.table.proofs.Views.{cut_put, parts_tell}
 use Rattle.table.proofs.Built.{built_as}
 use Rattle.table.proofs.Steps.{leaf, cell_counts, edge_from, first_step, next_step, all_count, last_step}
 use Rattle.table.proofs.rows.+append_table.Goals as goal
-use Rattle.table.proofs.rows.+append_table.Goals.{then-is_repeated, else-is_repeated+else-len-base-gt-MOST_ROWS}
+use Rattle.table.proofs.rows.+append_table.Goals.{then-are_same, else-are_same+else-len-base-gt-MOST_ROWS}
 
 pub returns-in_default : goal.returns-in_default
 returns-in_default g t c = record {
@@ -81,15 +81,15 @@ returns-then-len-base-gt-MOST_ROWS g t c = record {
     long : length (view (vec_items c.loop-high.rows)) ≡ c.len-end.result
     long = omega (arith, length-map (vec_items c.loop-high.rows) plain, c.loop-high.rows.ok, c.len-end.ensures)
 
-    told : Decides c.is_repeated.result
+    told : Decides c.are_same.result
         (between c.loop-high.start c.len-end.result (view (vec_items c.append_table-in-loop-high.new.rows)) ≡ drop c.len-end.result (view (vec_items c.append_table-in-loop-high.new.rows)))
-    told = subst (λ (x : List Row). Decides c.is_repeated.result (between c.loop-high.start c.len-end.result (view x) ≡ drop c.len-end.result (view x))) c.deref.ensures.value c.is_repeated.ensures
+    told = parts_tell _ _ _ c.loop-high.start c.len-end.result _ c.deref.ensures.value c.deref-in-loop-high.ensures.value c.are_same.ensures
 
     counted : length (view (vec_items c.append_table-in-loop-high.new.rows))
         ≤ length (take c.len-base.result (view (vec_items c.append_table.new.rows))) + length (table_from (g.S.Source.meaning c.args.source.now) c.args.field (values c.args.at))
     counted = all_count (g.S.Source.meaning c.args.source.now) c.in-Some.here c.args.field c.in-Some.ensures c.args.at (take c.len-base.result (view (vec_items c.append_table.new.rows))) (view (vec_items c.loop-high.rows)) c.loop-high.start c.loop-high.low c.loop-high.high c.loop-high.invariant.0
         c.with-next.result (omega (arith, c.loop-high-test.true, c.top-top.ensures), c.with-next.ensures)
-        (view (vec_items c.append_table-in-loop-high.new.rows)) c.in_ok-append_table-2.ensures.rows c.len-end.result long c.is_repeated.result told c.if-is_repeated.false
+        (view (vec_items c.append_table-in-loop-high.new.rows)) c.in_ok-append_table-2.ensures.rows c.len-end.result long c.are_same.result told c.if-are_same.false
 
 pub loop-high-smaller : goal.loop-high-smaller
 loop-high-smaller g t c = omega (
@@ -107,17 +107,17 @@ loop-high-preserved g t c =
     let now = vec_items c.loop-high.rows in
     let all = vec_items c.append_table-in-loop-high.new.rows in
     let two = next_step m c.in-Some.here c.args.field c.in-Some.ensures c.args.at (take c.len-base.result (view (vec_items c.append_table.new.rows))) (view now) c.loop-high.start c.loop-high.low c.loop-high.high c.loop-high.invariant.0
-    c.with-next.result (more, c.with-next.ensures) (view all) c.in_ok-append_table-2.ensures.rows c.len-end.result long c.is_repeated.result told c.edge-high-in-loop-high.result edge in
-    elim c.if-is_repeated.branch [
-      | then-is_repeated w ↦ (
-        built_as _ _ _ _ _ _ _ _ _ _ _ (ap (λ v. view (vec_items v)) w.rows-is ∙ ap view w.truncate.ensures.items ∙ sym (take-map plain c.len-end.result all)) w.start-is w.low-is (two.0 w.if-is_repeated.true),
+    c.with-next.result (more, c.with-next.ensures) (view all) c.in_ok-append_table-2.ensures.rows c.len-end.result long c.are_same.result told c.edge-high-in-loop-high.result edge in
+    elim c.if-are_same.branch [
+      | then-are_same w ↦ (
+        built_as _ _ _ _ _ _ _ _ _ _ _ (ap (λ v. view (vec_items v)) w.rows-is ∙ ap view w.truncate.ensures.items ∙ sym (take-map plain c.len-end.result all)) w.start-is w.low-is (two.0 w.if-are_same.true),
         omega (arith, edge.most, c.top-top.ensures),
         omega (arith, c.loop-high.invariant, w.start-is),
         omega (arith, c.loop-high.invariant, few, w.start-is, ap vec_len w.rows-is, w.truncate.ensures.len, c.len-end.ensures),
         omega (arith, c.loop-high.invariant, few, ap vec_len w.rows-is, w.truncate.ensures.len, c.len-end.ensures),
       )
-      | else-is_repeated+else-len-base-gt-MOST_ROWS w ↦ (
-        built_as _ _ _ _ _ _ _ _ _ _ _ (ap (λ v. view (vec_items v)) w.rows-is ∙ ap view (with_items_is c.append_table-in-loop-high.new.rows (put_mid c.loop-high.start (c.len-end.result - c.loop-high.start) w.deref_mut.result.now w.narrow.new.rows) (search (rules, places))) ∙ cut_put _ _ all w.deref_mut.result.now w.narrow.new.rows c.loop-high.start c.len-end.result (omega (arith, c.loop-high.invariant, c.len-end.ensures)) w.deref_mut.ensures.value w.narrow.ensures) w.start-is w.low-is (two.1 w.if-is_repeated.false),
+      | else-are_same+else-len-base-gt-MOST_ROWS w ↦ (
+        built_as _ _ _ _ _ _ _ _ _ _ _ (ap (λ v. view (vec_items v)) w.rows-is ∙ ap view (with_items_is c.append_table-in-loop-high.new.rows (put_mid c.loop-high.start (c.len-end.result - c.loop-high.start) w.deref_mut.result.now w.narrow.new.rows) (search (rules, places))) ∙ cut_put _ _ all w.deref_mut.result.now w.narrow.new.rows c.loop-high.start c.len-end.result (omega (arith, c.loop-high.invariant, c.len-end.ensures)) w.deref_mut.ensures.value w.narrow.ensures) w.start-is w.low-is (two.1 w.if-are_same.false),
         omega (arith, edge.most, c.top-top.ensures),
         omega (arith, c.loop-high.invariant, w.start-is, c.len-end.ensures),
         omega (arith, few, w.start-is, ap vec_len w.rows-is, c.len-end.ensures),
@@ -131,9 +131,9 @@ loop-high-preserved g t c =
     long : length (view (vec_items c.loop-high.rows)) ≡ c.len-end.result
     long = omega (arith, length-map (vec_items c.loop-high.rows) plain, c.loop-high.rows.ok, c.len-end.ensures)
 
-    told : Decides c.is_repeated.result
+    told : Decides c.are_same.result
         (between c.loop-high.start c.len-end.result (view (vec_items c.append_table-in-loop-high.new.rows)) ≡ drop c.len-end.result (view (vec_items c.append_table-in-loop-high.new.rows)))
-    told = subst (λ (x : List Row). Decides c.is_repeated.result (between c.loop-high.start c.len-end.result (view x) ≡ drop c.len-end.result (view x))) c.deref.ensures.value c.is_repeated.ensures
+    told = parts_tell _ _ _ c.loop-high.start c.len-end.result _ c.deref.ensures.value c.deref-in-loop-high.ensures.value c.are_same.ensures
 
     edge : Edge (g.S.Source.meaning c.args.source.now) (values c.with-next.result) (place c.in-Some.here) c.edge-high-in-loop-high.result
     edge = let w : Within tops (values c.with-next.result) = search rules in g.met.S.Source.sound _ _ _ _ (place_few c.in-Some.here) w c.edge-high-in-loop-high.ensures

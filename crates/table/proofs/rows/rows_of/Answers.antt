@@ -5,7 +5,7 @@ use Rattle.theory.proofs.Theorems.{table_canonical}
 use Rattle.table.specs.declared.row.Row.{Row}
 use Rattle.table.specs.Rows.{view}
 use Rattle.table.specs.Parts.{uncut}
-use Rattle.table.proofs.Exits.{none_made, handed_on}
+use Rattle.table.proofs.Exits.{handed_on}
 use Rattle.table.proofs.Steps.{uncut_none}
 use Rattle.table.proofs.rows.rows_of.Goals as goal
 
