@@ -4,7 +4,7 @@ ghost use Rattle.packet.specs.Packets.{values, tops, place};
 ghost use Rattle.theory.specs.Tables.{table, Canonical};
 ghost use Rattle.table.specs.Rows.{view, most_rows};
 ghost use Rattle.table.specs.Refusals.{Refuses};
-ghost use Rattle.table.specs.Parts.{table_from, uncut, cut};
+ghost use Rattle.table.specs.Parts.{before, AreLast, table_from, uncut, cut};
 
 use crate::refusal::PackRefusal;
 use crate::row::Row;
@@ -23,22 +23,23 @@ pub fn rows_of<K: Kind, S: Source<K>>(heap: Global, source: &S) -> Result<Vec<Ro
     ensures refused { IfErr result (λ e. Refuses e (length (table tops (S.Source.meaning source.now)))) }
 {
     let mut rows = Vec::new(heap);
-    append_table(&mut rows, source, 0, Packet::default())?;
+    append_table(&mut rows, source, &Field::ALL, Packet::default())?;
     Ok(rows)
 }
 
-// Puts behind `rows` the table of what is left of the source once the fields before `field` have the values of `at`.
+// Puts behind `rows` the table of what is left of the source for the last fields once those before have the values of `at`.
 fn append_table<K: Kind, S: Source<K>>(
     rows: &mut Vec<Row>,
     source: &S,
-    field: usize,
+    fields: &[Field],
     at: Packet,
 ) -> Result<(), PackRefusal>
-    ensures rows { OnOk result (view rows.new.items ≡ view rows.old.items ++ uncut field (table_from (S.Source.meaning source.now) field (values at))) }
+    requires { AreLast fields.now }
+    ensures rows { OnOk result (view rows.new.items ≡ view rows.old.items ++ uncut (before fields.now) (table_from (S.Source.meaning source.now) (before fields.now) (values at))) }
     ensures few { OnOk result ((vec_len rows.old ≤ vec_len rows.new) × (vec_len rows.new ≤ vec_len rows.old + most_rows)) }
-    ensures refused { IfErr result (λ e. Refuses e (length (table_from (S.Source.meaning source.now) field (values at)))) }
+    ensures refused { IfErr result (λ e. Refuses e (length (table_from (S.Source.meaning source.now) (before fields.now) (values at)))) }
 {
-    let Some(here) = Field::at(field) else {
+    let [here, later @ ..] = fields else {
         let decision = source.decide(&at);
         rows.push(Row {
             region: Region::EVERYTHING,
@@ -46,17 +47,18 @@ fn append_table<K: Kind, S: Source<K>>(
         })?;
         return Ok(());
     };
+    let here = *here;
     let top = here.top();
     let base = rows.len();
     let first = at.with(here, 0);
-    append_table(rows, source, field + 1, first)?;
+    append_table(rows, source, later, first)?;
     let mut start = base;
     let mut low = 0;
     let mut high = source.edge(here, &first);
     while high < top {
         let end = rows.len();
         let next = at.with(here, high + 1);
-        append_table(rows, source, field + 1, next)?;
+        append_table(rows, source, later, next)?;
         if are_same(&rows[start..end], &rows[end..]) {
             rows.truncate(end);
         } else {

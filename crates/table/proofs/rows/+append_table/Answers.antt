@@ -3,22 +3,23 @@ use borrow.Rule.Slice.PartMut.{put_mid}
 use Rattle.std.specs.List.{between}
 use Rattle.std.proofs.lemmas.List.{places, with_items_is, length-map, length-take, take_at, take-map}
 use Rattle.packet.specs.Packets.{values, tops, place, Within}
+use Rattle.packet.specs.declared.field.Field.TheVariants.{Source}
 use Rattle.packet.proofs.Values.{place_few}
 use Rattle.policy.specs.Edges.{Edge}
 use Rattle.theory.specs.Tables as tables
 use Rattle.table.specs.declared.row.Row.{Row}
 use Rattle.table.specs.Rows.{plain, view, most_rows}
-use Rattle.table.specs.Parts.{table_from, uncut, cut_between}
+use Rattle.table.specs.Parts.{before, table_from, uncut, cut_between}
 use Rattle.table.proofs.Exits.{none_made, handed_on}
 use Rattle.table.proofs.Views.{cut_put, parts_tell}
 use Rattle.table.proofs.Built.{built_as}
-use Rattle.table.proofs.Steps.{leaf, cell_counts, edge_from, first_step, next_step, all_count, last_step}
+use Rattle.table.proofs.Steps.{next_field, rows_at, counts_at, leaf, cell_counts, edge_from, first_step, next_step, all_count, last_step}
 use Rattle.table.proofs.rows.+append_table.Goals as goal
 use Rattle.table.proofs.rows.+append_table.Goals.{then-are_same, else-are_same+else-len-base-gt-MOST_ROWS}
 
 pub returns-in_default : goal.returns-in_default
 returns-in_default g t c = record {
-  rows = leaf (g.S.Source.meaning c.args.source.now) c.args.field c.args.at c.in_default.ensures _ refl c.decide-decision.ensures
+  rows = leaf (g.S.Source.meaning c.args.source.now) (before c.args.fields.now) c.args.at (omega (arith, c.in_default.len_below)) _ refl c.decide-decision.ensures
       (vec_items c.args.rows.now) (vec_items c.push.new.self) c.in_ok-push.ensures.items;
   few = omega (arith, c.in_ok-push.ensures.len);
   refused = tt;
@@ -31,15 +32,16 @@ returns-in_err-append_table g t c =
       rows = none_made _ _ _ x;
       few = none_made _ _ _ x;
       refused = handed_on _ _ _ _ x
-          (cell_counts (g.S.Source.meaning c.args.source.now) c.in-Some.here c.args.field c.in-Some.ensures c.args.at c.with-first.result 0 (omega arith, c.with-first.ensures))
+          (omega (arith, counts_at _ _ (g.S.Source.meaning c.args.source.now) c.with-first.result (next_field c.args.fields.now Source c.in-len1-up.len_at_least c.requires).1, cell_counts (g.S.Source.meaning c.args.source.now) (get_or c.args.fields.now 0 Source) (before c.args.fields.now) (next_field c.args.fields.now Source c.in-len1-up.len_at_least c.requires).0 c.args.at c.with-first.result 0 (omega arith, c.with-first.ensures)))
           c.in_err-append_table.ensures.refused;
     }
 
 pub loop-high-init : goal.loop-high-init
 loop-high-init g t c =
     let u = c.in_ok-append_table.ensures in (
-      first_step (g.S.Source.meaning c.args.source.now) c.in-Some.here c.args.field c.in-Some.ensures c.args.at c.with-first.result (omega arith, c.with-first.ensures) c.edge-high.result edge
-          (view (vec_items c.args.rows.now)) (view (vec_items c.append_table.new.rows)) c.len-base.result u.rows long,
+      first_step (g.S.Source.meaning c.args.source.now) (get_or c.args.fields.now 0 Source) (before c.args.fields.now) (next_field c.args.fields.now Source c.in-len1-up.len_at_least c.requires).0 c.args.at c.with-first.result (omega arith, c.with-first.ensures) c.edge-high.result edge
+          (view (vec_items c.args.rows.now)) (view (vec_items c.append_table.new.rows)) c.len-base.result
+          (u.rows ∙ rows_at _ _ (g.S.Source.meaning c.args.source.now) (view (vec_items c.args.rows.now)) c.with-first.result (next_field c.args.fields.now Source c.in-len1-up.len_at_least c.requires).1) long,
       omega (arith, edge.most, c.top-top.ensures),
       omega arith,
       omega (arith, u.few, c.len-base.ensures),
@@ -49,8 +51,8 @@ loop-high-init g t c =
     long : length (view (vec_items c.args.rows.now)) ≡ c.len-base.result
     long = omega (arith, length-map (vec_items c.args.rows.now) plain, c.args.rows.now.ok, c.len-base.ensures)
 
-    edge : Edge (g.S.Source.meaning c.args.source.now) (values c.with-first.result) (place c.in-Some.here) c.edge-high.result
-    edge = let w : Within tops (values c.with-first.result) = search rules in g.met.S.Source.sound _ _ _ _ (place_few c.in-Some.here) w c.edge-high.ensures
+    edge : Edge (g.S.Source.meaning c.args.source.now) (values c.with-first.result) (place (get_or c.args.fields.now 0 Source)) c.edge-high.result
+    edge = let w : Within tops (values c.with-first.result) = search rules in g.met.S.Source.sound _ _ _ _ (place_few (get_or c.args.fields.now 0 Source)) w c.edge-high.ensures
 
 pub returns-in_err-append_table-2 : goal.returns-in_err-append_table-2
 returns-in_err-append_table-2 g t c =
@@ -59,7 +61,7 @@ returns-in_err-append_table-2 g t c =
       rows = none_made _ _ _ x;
       few = none_made _ _ _ x;
       refused = handed_on _ _ _ _ x
-          (cell_counts (g.S.Source.meaning c.args.source.now) c.in-Some.here c.args.field c.in-Some.ensures c.args.at c.with-next.result (c.loop-high.high + 1) (omega (arith, c.loop-high-test.true, c.top-top.ensures), c.with-next.ensures))
+          (omega (arith, counts_at _ _ (g.S.Source.meaning c.args.source.now) c.with-next.result (next_field c.args.fields.now Source c.in-len1-up.len_at_least c.requires).1, cell_counts (g.S.Source.meaning c.args.source.now) (get_or c.args.fields.now 0 Source) (before c.args.fields.now) (next_field c.args.fields.now Source c.in-len1-up.len_at_least c.requires).0 c.args.at c.with-next.result (c.loop-high.high + 1) (omega (arith, c.loop-high-test.true, c.top-top.ensures), c.with-next.ensures)))
           c.in_err-append_table-2.ensures.refused;
     }
 
@@ -86,28 +88,28 @@ returns-then-len-base-gt-MOST_ROWS g t c = record {
     told = parts_tell _ _ _ c.loop-high.start c.len-end.result _ c.deref.ensures.value c.deref-in-loop-high.ensures.value c.are_same.ensures
 
     counted : length (view (vec_items c.append_table-in-loop-high.new.rows))
-        ≤ length (take c.len-base.result (view (vec_items c.append_table.new.rows))) + length (table_from (g.S.Source.meaning c.args.source.now) c.args.field (values c.args.at))
-    counted = all_count (g.S.Source.meaning c.args.source.now) c.in-Some.here c.args.field c.in-Some.ensures c.args.at (take c.len-base.result (view (vec_items c.append_table.new.rows))) (view (vec_items c.loop-high.rows)) c.loop-high.start c.loop-high.low c.loop-high.high c.loop-high.invariant.0
+        ≤ length (take c.len-base.result (view (vec_items c.append_table.new.rows))) + length (table_from (g.S.Source.meaning c.args.source.now) (before c.args.fields.now) (values c.args.at))
+    counted = all_count (g.S.Source.meaning c.args.source.now) (get_or c.args.fields.now 0 Source) (before c.args.fields.now) (next_field c.args.fields.now Source c.in-len1-up.len_at_least c.requires).0 c.args.at (take c.len-base.result (view (vec_items c.append_table.new.rows))) (view (vec_items c.loop-high.rows)) c.loop-high.start c.loop-high.low c.loop-high.high c.loop-high.invariant.0
         c.with-next.result (omega (arith, c.loop-high-test.true, c.top-top.ensures), c.with-next.ensures)
-        (view (vec_items c.append_table-in-loop-high.new.rows)) c.in_ok-append_table-2.ensures.rows c.len-end.result long c.are_same.result told c.if-are_same.false
+        (view (vec_items c.append_table-in-loop-high.new.rows)) (c.in_ok-append_table-2.ensures.rows ∙ rows_at _ _ (g.S.Source.meaning c.args.source.now) (view (vec_items c.loop-high.rows)) c.with-next.result (next_field c.args.fields.now Source c.in-len1-up.len_at_least c.requires).1) c.len-end.result long c.are_same.result told c.if-are_same.false
 
 pub loop-high-smaller : goal.loop-high-smaller
 loop-high-smaller g t c = omega (
   arith,
   c.loop-high-test.true,
-  edge_from (g.S.Source.meaning c.args.source.now) c.in-Some.here c.args.field c.in-Some.ensures c.args.at c.with-next.result (c.loop-high.high + 1) (omega (arith, c.loop-high-test.true, c.top-top.ensures), c.with-next.ensures) c.edge-high-in-loop-high.result edge,
+  edge_from (g.S.Source.meaning c.args.source.now) (get_or c.args.fields.now 0 Source) (before c.args.fields.now) (next_field c.args.fields.now Source c.in-len1-up.len_at_least c.requires).0 c.args.at c.with-next.result (c.loop-high.high + 1) (omega (arith, c.loop-high-test.true, c.top-top.ensures), c.with-next.ensures) c.edge-high-in-loop-high.result edge,
 )
   where
-    edge : Edge (g.S.Source.meaning c.args.source.now) (values c.with-next.result) (place c.in-Some.here) c.edge-high-in-loop-high.result
-    edge = let w : Within tops (values c.with-next.result) = search rules in g.met.S.Source.sound _ _ _ _ (place_few c.in-Some.here) w c.edge-high-in-loop-high.ensures
+    edge : Edge (g.S.Source.meaning c.args.source.now) (values c.with-next.result) (place (get_or c.args.fields.now 0 Source)) c.edge-high-in-loop-high.result
+    edge = let w : Within tops (values c.with-next.result) = search rules in g.met.S.Source.sound _ _ _ _ (place_few (get_or c.args.fields.now 0 Source)) w c.edge-high-in-loop-high.ensures
 
 pub loop-high-preserved : goal.loop-high-preserved
 loop-high-preserved g t c =
     let m = g.S.Source.meaning c.args.source.now in
     let now = vec_items c.loop-high.rows in
     let all = vec_items c.append_table-in-loop-high.new.rows in
-    let two = next_step m c.in-Some.here c.args.field c.in-Some.ensures c.args.at (take c.len-base.result (view (vec_items c.append_table.new.rows))) (view now) c.loop-high.start c.loop-high.low c.loop-high.high c.loop-high.invariant.0
-    c.with-next.result (more, c.with-next.ensures) (view all) c.in_ok-append_table-2.ensures.rows c.len-end.result long c.are_same.result told c.edge-high-in-loop-high.result edge in
+    let two = next_step m (get_or c.args.fields.now 0 Source) (before c.args.fields.now) (next_field c.args.fields.now Source c.in-len1-up.len_at_least c.requires).0 c.args.at (take c.len-base.result (view (vec_items c.append_table.new.rows))) (view now) c.loop-high.start c.loop-high.low c.loop-high.high c.loop-high.invariant.0
+    c.with-next.result (more, c.with-next.ensures) (view all) (c.in_ok-append_table-2.ensures.rows ∙ rows_at _ _ (g.S.Source.meaning c.args.source.now) (view (vec_items c.loop-high.rows)) c.with-next.result (next_field c.args.fields.now Source c.in-len1-up.len_at_least c.requires).1) c.len-end.result long c.are_same.result told c.edge-high-in-loop-high.result edge in
     elim c.if-are_same.branch [
       | then-are_same w ↦ (
         built_as _ _ _ _ _ _ _ _ _ _ _ (ap (λ v. view (vec_items v)) w.rows-is ∙ ap view w.truncate.ensures.items ∙ sym (take-map plain c.len-end.result all)) w.start-is w.low-is (two.0 w.if-are_same.true),
@@ -125,7 +127,7 @@ loop-high-preserved g t c =
       )
     ]
   where
-    more : c.loop-high.high + 1 ≤ get_or tops (place c.in-Some.here) 0
+    more : c.loop-high.high + 1 ≤ get_or tops (place (get_or c.args.fields.now 0 Source)) 0
     more = omega (arith, c.loop-high-test.true, c.top-top.ensures)
 
     long : length (view (vec_items c.loop-high.rows)) ≡ c.len-end.result
@@ -135,8 +137,8 @@ loop-high-preserved g t c =
         (between c.loop-high.start c.len-end.result (view (vec_items c.append_table-in-loop-high.new.rows)) ≡ drop c.len-end.result (view (vec_items c.append_table-in-loop-high.new.rows)))
     told = parts_tell _ _ _ c.loop-high.start c.len-end.result _ c.deref.ensures.value c.deref-in-loop-high.ensures.value c.are_same.ensures
 
-    edge : Edge (g.S.Source.meaning c.args.source.now) (values c.with-next.result) (place c.in-Some.here) c.edge-high-in-loop-high.result
-    edge = let w : Within tops (values c.with-next.result) = search rules in g.met.S.Source.sound _ _ _ _ (place_few c.in-Some.here) w c.edge-high-in-loop-high.ensures
+    edge : Edge (g.S.Source.meaning c.args.source.now) (values c.with-next.result) (place (get_or c.args.fields.now 0 Source)) c.edge-high-in-loop-high.result
+    edge = let w : Within tops (values c.with-next.result) = search rules in g.met.S.Source.sound _ _ _ _ (place_few (get_or c.args.fields.now 0 Source)) w c.edge-high-in-loop-high.ensures
 
     few : (vec_len c.loop-high.rows ≤ vec_len c.append_table-in-loop-high.new.rows) × (vec_len c.append_table-in-loop-high.new.rows ≤ vec_len c.loop-high.rows + most_rows)
     few = c.in_ok-append_table-2.ensures.few
@@ -145,7 +147,7 @@ pub returns : goal.returns
 returns g t c = record {
   rows = ap view (with_items_is c.loop-high.rows (put_mid c.loop-high.start (length lent - c.loop-high.start) lent c.narrow-2.new.rows) (search (rules, places)))
       ∙ cut_put _ _ (vec_items c.loop-high.rows) lent c.narrow-2.new.rows c.loop-high.start (length lent) (omega (arith, c.loop-high.invariant, c.deref_mut-2.ensures.len)) c.deref_mut-2.ensures.value c.narrow-2.ensures
-      ∙ whole ∙ ap (λ (a : List tables.Row). a ++ uncut c.args.field (table_from (g.S.Source.meaning c.args.source.now) c.args.field (values c.args.at))) was;
+      ∙ whole ∙ ap (λ (a : List tables.Row). a ++ uncut (before c.args.fields.now) (table_from (g.S.Source.meaning c.args.source.now) (before c.args.fields.now) (values c.args.at))) was;
   few = omega (arith, c.loop-high.invariant, c.len-base.ensures);
   refused = tt;
 }
@@ -161,7 +163,10 @@ returns g t c = record {
     long : length (view (vec_items c.loop-high.rows)) ≡ length lent
     long = omega (arith, length-map (vec_items c.loop-high.rows) plain, c.loop-high.rows.ok, c.deref_mut-2.ensures.len)
 
-    whole : cut_between c.loop-high.start (length lent) (place c.in-Some.here) (record { low = c.loop-high.low; high = c.loop-high.high }) (view (vec_items c.loop-high.rows))
-        ≡ take c.len-base.result (view (vec_items c.append_table.new.rows)) ++ uncut c.args.field (table_from (g.S.Source.meaning c.args.source.now) c.args.field (values c.args.at))
-    whole = last_step (g.S.Source.meaning c.args.source.now) c.in-Some.here c.args.field c.in-Some.ensures c.args.at (take c.len-base.result (view (vec_items c.append_table.new.rows))) (view (vec_items c.loop-high.rows))
+    whole : cut_between c.loop-high.start (length lent) (place (get_or c.args.fields.now 0 Source)) (record { low = c.loop-high.low; high = c.loop-high.high }) (view (vec_items c.loop-high.rows))
+        ≡ take c.len-base.result (view (vec_items c.append_table.new.rows)) ++ uncut (before c.args.fields.now) (table_from (g.S.Source.meaning c.args.source.now) (before c.args.fields.now) (values c.args.at))
+    whole = last_step (g.S.Source.meaning c.args.source.now) (get_or c.args.fields.now 0 Source) (before c.args.fields.now) (next_field c.args.fields.now Source c.in-len1-up.len_at_least c.requires).0 c.args.at (take c.len-base.result (view (vec_items c.append_table.new.rows))) (view (vec_items c.loop-high.rows))
         c.loop-high.start c.loop-high.low c.loop-high.high c.loop-high.invariant.0 (omega (arith, c.loop-high.invariant.1, c.loop-high-test.false, c.top-top.ensures)) (length lent) long
+
+pub append_table-requires-in-loop-high : goal.append_table-requires-in-loop-high
+append_table-requires-in-loop-high g t c = let next = next_field c.args.fields.now Source c.in-len1-up.len_at_least c.requires in search rules
