@@ -17,24 +17,16 @@ use Rattle.table.proofs.Steps.{next_field, rows_at, counts_at, leaf, cell_counts
 use Rattle.table.proofs.rows.+append_table.Goals as goal
 use Rattle.table.proofs.rows.+append_table.Goals.{then-are_same, else-are_same+else-len-base-gt-MOST_ROWS}
 
-pub returns-in_default : goal.returns-in_default
-returns-in_default g t c = record {
-  rows = leaf (g.S.Source.meaning c.args.source.now) (before c.args.fields.now) c.args.at (omega (arith, c.in_default.len_below)) _ refl c.decide-decision.ensures
-      (vec_items c.args.rows.now) (vec_items c.push.new.self) c.in_ok-push.ensures.items;
-  few = omega (arith, c.in_ok-push.ensures.len);
-  refused = tt;
-}
+pub returns-in_default-clause-rows : goal.returns-in_default-clause-rows
+returns-in_default-clause-rows g t c =
+    leaf (g.S.Source.meaning c.args.source.now) (before c.args.fields.now) c.args.at (omega (arith, c.in_default.len_below)) _ refl c.decide-decision.ensures
+    (vec_items c.args.rows.now) (vec_items c.push.new.self) c.in_ok-push.ensures.items
 
-pub returns-in_err-append_table : goal.returns-in_err-append_table
-returns-in_err-append_table g t c =
-    let x = c.from_residual-in_err-append_table.ensures.1 in
-    record {
-      rows = none_made _ _ _ x;
-      few = none_made _ _ _ x;
-      refused = handed_on _ _ _ _ x
-          (omega (arith, counts_at _ _ (g.S.Source.meaning c.args.source.now) c.with-first.result (next_field c.args.fields.now Source c.in-len1-up.len_at_least c.requires).1, cell_counts (g.S.Source.meaning c.args.source.now) (get_or c.args.fields.now 0 Source) (before c.args.fields.now) (next_field c.args.fields.now Source c.in-len1-up.len_at_least c.requires).0 c.args.at c.with-first.result 0 (omega arith, c.with-first.ensures)))
-          c.in_err-append_table.ensures.refused;
-    }
+pub returns-in_err-append_table-clause-refused : goal.returns-in_err-append_table-clause-refused
+returns-in_err-append_table-clause-refused g t c =
+    let next = next_field c.args.fields.now Source c.in-len1-up.len_at_least c.requires in
+    let less = cell_counts (g.S.Source.meaning c.args.source.now) (get_or c.args.fields.now 0 Source) (before c.args.fields.now) next.0 c.args.at c.with-first.result 0 (omega arith, c.with-first.ensures) in
+    handed_on _ _ _ _ c.from_residual-in_err-append_table.ensures.1 (omega (arith, less, counts_at _ _ (g.S.Source.meaning c.args.source.now) c.with-first.result next.1)) c.in_err-append_table.ensures.refused
 
 pub loop-high-init : goal.loop-high-init
 loop-high-init g t c =
@@ -54,31 +46,22 @@ loop-high-init g t c =
     edge : Edge (g.S.Source.meaning c.args.source.now) (values c.with-first.result) (place (get_or c.args.fields.now 0 Source)) c.edge-high.result
     edge = let w : Within tops (values c.with-first.result) = search rules in g.met.S.Source.sound _ _ _ _ (place_few (get_or c.args.fields.now 0 Source)) w c.edge-high.ensures
 
-pub returns-in_err-append_table-2 : goal.returns-in_err-append_table-2
-returns-in_err-append_table-2 g t c =
-    let x = c.from_residual-in_err-append_table-2.ensures.1 in
-    record {
-      rows = none_made _ _ _ x;
-      few = none_made _ _ _ x;
-      refused = handed_on _ _ _ _ x
-          (omega (arith, counts_at _ _ (g.S.Source.meaning c.args.source.now) c.with-next.result (next_field c.args.fields.now Source c.in-len1-up.len_at_least c.requires).1, cell_counts (g.S.Source.meaning c.args.source.now) (get_or c.args.fields.now 0 Source) (before c.args.fields.now) (next_field c.args.fields.now Source c.in-len1-up.len_at_least c.requires).0 c.args.at c.with-next.result (c.loop-high.high + 1) (omega (arith, c.loop-high-test.true, c.top-top.ensures), c.with-next.ensures)))
-          c.in_err-append_table-2.ensures.refused;
-    }
+pub returns-in_err-append_table-2-clause-refused : goal.returns-in_err-append_table-2-clause-refused
+returns-in_err-append_table-2-clause-refused g t c =
+    let next = next_field c.args.fields.now Source c.in-len1-up.len_at_least c.requires in
+    let less = cell_counts (g.S.Source.meaning c.args.source.now) (get_or c.args.fields.now 0 Source) (before c.args.fields.now) next.0 c.args.at c.with-next.result (c.loop-high.high + 1) (omega (arith, c.loop-high-test.true, c.top-top.ensures), c.with-next.ensures) in
+    handed_on _ _ _ _ c.from_residual-in_err-append_table-2.ensures.1 (omega (arith, less, counts_at _ _ (g.S.Source.meaning c.args.source.now) c.with-next.result next.1)) c.in_err-append_table-2.ensures.refused
 
-pub returns-then-len-base-gt-MOST_ROWS : goal.returns-then-len-base-gt-MOST_ROWS
-returns-then-len-base-gt-MOST_ROWS g t c = record {
-  rows = tt;
-  few = tt;
-  refused = omega (
-    arith,
-    counted,
-    length-take c.len-base.result (view (vec_items c.append_table.new.rows)),
-    length-map (vec_items c.append_table-in-loop-high.new.rows) plain,
-    c.append_table-in-loop-high.new.rows.ok,
-    c.len.ensures,
-    c.if-len-base-gt-MOST_ROWS.true,
-  );
-}
+pub returns-then-len-base-gt-MOST_ROWS-clause-refused : goal.returns-then-len-base-gt-MOST_ROWS-clause-refused
+returns-then-len-base-gt-MOST_ROWS-clause-refused g t c = omega (
+  arith,
+  counted,
+  length-take c.len-base.result (view (vec_items c.append_table.new.rows)),
+  length-map (vec_items c.append_table-in-loop-high.new.rows) plain,
+  c.append_table-in-loop-high.new.rows.ok,
+  c.len.ensures,
+  c.if-len-base-gt-MOST_ROWS.true,
+)
   where
     long : length (view (vec_items c.loop-high.rows)) ≡ c.len-end.result
     long = omega (arith, length-map (vec_items c.loop-high.rows) plain, c.loop-high.rows.ok, c.len-end.ensures)
@@ -92,16 +75,6 @@ returns-then-len-base-gt-MOST_ROWS g t c = record {
     counted = all_count (g.S.Source.meaning c.args.source.now) (get_or c.args.fields.now 0 Source) (before c.args.fields.now) (next_field c.args.fields.now Source c.in-len1-up.len_at_least c.requires).0 c.args.at (take c.len-base.result (view (vec_items c.append_table.new.rows))) (view (vec_items c.loop-high.rows)) c.loop-high.start c.loop-high.low c.loop-high.high c.loop-high.invariant.0
         c.with-next.result (omega (arith, c.loop-high-test.true, c.top-top.ensures), c.with-next.ensures)
         (view (vec_items c.append_table-in-loop-high.new.rows)) (c.in_ok-append_table-2.ensures.rows ∙ rows_at _ _ (g.S.Source.meaning c.args.source.now) (view (vec_items c.loop-high.rows)) c.with-next.result (next_field c.args.fields.now Source c.in-len1-up.len_at_least c.requires).1) c.len-end.result long c.are_same.result told c.if-are_same.false
-
-pub loop-high-smaller : goal.loop-high-smaller
-loop-high-smaller g t c = omega (
-  arith,
-  c.loop-high-test.true,
-  edge_from (g.S.Source.meaning c.args.source.now) (get_or c.args.fields.now 0 Source) (before c.args.fields.now) (next_field c.args.fields.now Source c.in-len1-up.len_at_least c.requires).0 c.args.at c.with-next.result (c.loop-high.high + 1) (omega (arith, c.loop-high-test.true, c.top-top.ensures), c.with-next.ensures) c.edge-high-in-loop-high.result edge,
-)
-  where
-    edge : Edge (g.S.Source.meaning c.args.source.now) (values c.with-next.result) (place (get_or c.args.fields.now 0 Source)) c.edge-high-in-loop-high.result
-    edge = let w : Within tops (values c.with-next.result) = search rules in g.met.S.Source.sound _ _ _ _ (place_few (get_or c.args.fields.now 0 Source)) w c.edge-high-in-loop-high.ensures
 
 pub loop-high-preserved : goal.loop-high-preserved
 loop-high-preserved g t c =
@@ -143,14 +116,11 @@ loop-high-preserved g t c =
     few : (vec_len c.loop-high.rows ≤ vec_len c.append_table-in-loop-high.new.rows) × (vec_len c.append_table-in-loop-high.new.rows ≤ vec_len c.loop-high.rows + most_rows)
     few = c.in_ok-append_table-2.ensures.few
 
-pub returns : goal.returns
-returns g t c = record {
-  rows = ap view (with_items_is c.loop-high.rows (put_mid c.loop-high.start (length lent - c.loop-high.start) lent c.narrow-2.new.rows) (search (rules, places)))
+pub returns-clause-rows : goal.returns-clause-rows
+returns-clause-rows g t c =
+    ap view (with_items_is c.loop-high.rows (put_mid c.loop-high.start (length lent - c.loop-high.start) lent c.narrow-2.new.rows) (search (rules, places)))
       ∙ cut_put _ _ (vec_items c.loop-high.rows) lent c.narrow-2.new.rows c.loop-high.start (length lent) (omega (arith, c.loop-high.invariant, c.deref_mut-2.ensures.len)) c.deref_mut-2.ensures.value c.narrow-2.ensures
-      ∙ whole ∙ ap (λ (a : List tables.Row). a ++ uncut (before c.args.fields.now) (table_from (g.S.Source.meaning c.args.source.now) (before c.args.fields.now) (values c.args.at))) was;
-  few = omega (arith, c.loop-high.invariant, c.len-base.ensures);
-  refused = tt;
-}
+      ∙ whole ∙ ap (λ (a : List tables.Row). a ++ uncut (before c.args.fields.now) (table_from (g.S.Source.meaning c.args.source.now) (before c.args.fields.now) (values c.args.at))) was
   where
     lent : List Row
     lent = c.deref_mut-2.result.now
