@@ -86,7 +86,7 @@ fn are_same(first: &[Row], second: &[Row]) -> bool
 fn narrow(rows: &mut [Row], field: Field, range: Range<u32>)
     ensures { view rows.new ≡ map (cut (place field) range) (view rows.old) }
 {
-    for row in rows.iter_mut() {
+    for row in rows {
         row.region = row.region.with(field, range);
     }
 }

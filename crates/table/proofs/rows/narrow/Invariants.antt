@@ -6,4 +6,4 @@ use Rattle.table.proofs.rows.narrow.Given as goal
 
 -- the rows so far have the range, and the others are as they were
 abbrev pub invariant-loop-row : goal.invariant-loop-row
-invariant-loop-row l = view l.rows ≡ map (cut (place l.field) l.range) (take l.row-index (view l.initial.rows)) ++ drop l.row-index (view l.initial.rows)
+invariant-loop-row l = view l.row-items ≡ map (cut (place l.field) l.range) (take l.row-index (view l.initial.row-items)) ++ drop l.row-index (view l.initial.row-items)
