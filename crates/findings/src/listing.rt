@@ -25,7 +25,8 @@ pub fn findings<K: Kind>(book: &Book<K>, entries: &mut [Finding]) -> Result<usiz
     Ok(list(rules, entries))
 }
 
-// Writes the rules' findings to the first entries, as far as these reach, and answers how many findings there are.
+// Writes the rules' findings to the first entries, as far as these reach, and answers how many findings there are. An iterator of
+// the findings would be no plainer: it would keep both positions and step them by hand.
 fn list(rules: &[Rule], entries: &mut [Finding]) -> usize
     requires { length rules.now ≤ 64 }
     ensures count { result ≡ length (findings_of rules.now) }
@@ -37,6 +38,7 @@ fn list(rules: &[Rule], entries: &mut [Finding]) -> usize
         let later = &rules[first + 1..];
         for (ahead, other) in later.iter().enumerate() {
             if let Some(hiding) = hiding(*rule, *other) {
+                // By index, since of what is written through a slice's get_mut a proof knows no element.
                 if count < entries.len() {
                     entries[count] = Finding {
                         first,

@@ -55,6 +55,7 @@ fn append_table<K: Kind, S: Source<K>>(
     let mut start = base;
     let mut low = 0;
     let mut high = source.edge(here, &first);
+    // The step is the source's edge and not one value, so that no range is gone through.
     while high < top {
         let end = rows.len();
         let next = at.with(here, high + 1);

@@ -50,7 +50,7 @@ impl<K: Kind> Book<K> {
         if !speaks::<K>(rule.decision) {
             return Err(Refusal::NotADecision);
         }
-        // There is room: memory for all rules was had at the opening.
+        // There is room, since memory for all rules was had at the opening; a Vec has no insert that asks for none.
         let _ = self.rules.insert(position, rule);
         Ok(())
     }
