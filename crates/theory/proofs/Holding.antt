@@ -51,11 +51,11 @@ Right n (r ∷ rs) = n < r.low
 
 left_past : (n v : ℕ) (q : List ℕ) → n ≤ v → (rs : List (Range ℕ)) → Left n rs → Past (v ∷ q) rs
 left_past n v q h [] l = absurd l
-left_past n v q h (r ∷ rs) l = (rw (le-ltb v r.low (omega arith), lt-leb v r.high (omega arith)), and_left _ _ (and_right _ _ (lt-leb v r.high (omega arith))))
+left_past n v q h (r ∷ rs) l = (grind (arith, nat_tests), grind (arith, nat_tests))
 
 right_ahead : (n v : ℕ) (q : List ℕ) → v ≤ n → (rs : List (Range ℕ)) → Right n rs → Ahead (v ∷ q) rs
 right_ahead n v q h [] l = absurd l
-right_ahead n v q h (r ∷ rs) l = (rw (lt-ltb v r.low (omega arith)), and_left _ _ (and_left _ _ (lt-leb r.low v (omega arith))))
+right_ahead n v q h (r ∷ rs) l = (grind (arith, nat_tests), grind (arith, nat_tests))
 
 upto_left : (n : ℕ) (gs : List Group) → Upto n gs → (k : ℕ) → n ≤ k → Every (Left k) (flat gs)
 upto_left n [] u k h = tt
@@ -157,10 +157,7 @@ split (top ∷ rest) rows n (v ∷ q) w =
 holds_before : (rs : List (Range ℕ)) (p : List ℕ) → holds rs p ≡ true → before rs p ≡ false
 holds_before [] p e = refl
 holds_before (r ∷ rs) [] e = refl
-holds_before (r ∷ rs) (v ∷ p) e =
-    let h = and_parts _ _ e in
-    let k = and_parts _ _ h.0 in
-    rw (le-ltb v r.low (leb-true _ _ k.0), k.1) (holds_before rs p h.1)
+holds_before (r ∷ rs) (v ∷ p) e = grind (arith, nat_tests, holds_before rs p)
 
 ltb_suc : (a b : ℕ) → ltb a b ≡ ltb (suc a) (suc b)
 ltb_suc a b = grind (arith, nat_tests)

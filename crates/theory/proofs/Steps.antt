@@ -5,6 +5,7 @@ use mathlib.Core.Bool.{and_assoc, and-true}
 use mathlib.Core.Option.{Option, none, some}
 use Rattle.std.proofs.lemmas.List.{take_all}
 use Rattle.std.proofs.lemmas.Bool.{false≢true, cases_lt, and_parts, and_from, eqb-true, eq-eqb, ne_eqb, leb-true, le-leb}
+use Rattle.std.proofs.lemmas.Bool.Decides.{nat_tests}
 use Rattle.packet.specs.declared.range.Range.{Range}
 use Rattle.theory.specs.Tables.{Row, Group, spread, flat, Upto, Each, Nested, table}
 use Rattle.theory.specs.Steps.{fits, at_start, at_end, follows, may_come, walk, last, finished, begins, passes}
@@ -44,17 +45,13 @@ Reached rest n (some []) = ⊥
 Reached rest n (some (x ∷ a)) = (n ≡ suc x.high) × (x.low ≤ x.high) × (at_end rest a ≡ true)
 
 may_enter : (top : ℕ) (rest : List ℕ) (o : Option (List (Range ℕ))) (low high : ℕ) (b : List (Range ℕ)) → Reached rest low o → at_start b ≡ true → may_come (top ∷ rest) o (record { low = low; high = high } ∷ b) ≡ true
-may_enter top rest none low high b r s = and_from _ _ (eq-eqb low 0 r) s
+may_enter top rest none low high b r s = grind (arith, nat_tests)
 may_enter top rest (some []) low high b r s = absurd r
-may_enter top rest (some (x ∷ a)) low high b r s = rw (ne_eqb x.low low (omega arith), eq-eqb low (suc x.high) r.0, r.2) s
+may_enter top rest (some (x ∷ a)) low high b r s = grind (arith, nat_tests)
 
 walk_enter : (top : ℕ) (rest : List ℕ) (o : Option (List (Range ℕ))) (low high : ℕ) (rows : List Row) → Reached rest low o → low ≤ high → high ≤ top → walk rest none rows ≡ true → walk (top ∷ rest) o (spread low high rows) ≡ true
 walk_enter top rest o low high [] r l h w = refl
-walk_enter top rest o low high (x ∷ rows) r l h w =
-    let p = and_parts _ _ w in
-    let q = and_parts _ _ p.0 in
-    and_from _ _ (and_from _ _ (and_from _ _ (and_from _ _ (le-leb low high l) (le-leb high top h)) q.0) (may_enter top rest o low high x.ranges r q.1))
-    (walk-spread top rest low high l h x.ranges rows ∙ p.1)
+walk_enter top rest o low high (x ∷ rows) r l h w = grind (arith, nat_tests, may_enter top rest o low high x.ranges r, walk-spread top rest low high l h x.ranges rows)
 
 -- the rows step from the first, and end at the end
 abbrev Full : List ℕ → List Row → Type 0
@@ -108,12 +105,7 @@ State top rest (some a) rows = Read top rest a rows
 -- either the ranges on the first field are the same, or the second begins one past the end of the first
 follows_cases : (top : ℕ) (rest : List ℕ) (x y : Range ℕ) (a b : List (Range ℕ)) → follows (top ∷ rest) (x ∷ a) (y ∷ b) ≡ true
     → ((x.low ≡ y.low) × (x.high ≡ y.high) × (follows rest a b ≡ true)) ⊎ ((y.low ≡ suc x.high) × (at_end rest a ≡ true) × (at_start b ≡ true))
-follows_cases top rest x y a b f = go (eqb x.low y.low && eqb x.high y.high) refl f
-  where
-    go : (t : Bool) → (eqb x.low y.low && eqb x.high y.high) ≡ t → cond t (follows rest a b) (eqb y.low (suc x.high) && at_end rest a && at_start b) ≡ true
-        → ((x.low ≡ y.low) × (x.high ≡ y.high) × (follows rest a b ≡ true)) ⊎ ((y.low ≡ suc x.high) × (at_end rest a ≡ true) × (at_start b ≡ true))
-    go true e f = let p = and_parts _ _ e in inl (eqb-true _ _ p.0, eqb-true _ _ p.1, f)
-    go false e f = let p = and_parts _ _ f in let q = and_parts _ _ p.0 in inr (eqb-true _ _ q.0, q.1, p.1)
+follows_cases top rest x y a b f = grind (arith, nat_tests)
 
 module _ (top : ℕ) (rest : List ℕ) (ih : (rows : List Row) → passes rest rows ≡ true → Nested rest rows) where
   -- a group that is at its end is nested
