@@ -1,8 +1,7 @@
 -- Nested rows are reduced exactly if no row starts a range that is alike its left neighbour. Assumes nothing.
 use Rattle.std.proofs.Common.{◌≡◌, ℕ, zero, suc, ◌<◌, Bool, true, false, not, ◌&&◌, List, [], ◌∷◌, ◌++◌, length, sym, refl, ap, ◌∙◌, ap₂, inl, inr, arith}
-use mathlib.Core.Bool.{and_assoc}
 use mathlib.Core.Option.{Option, none, some}
-use Rattle.std.proofs.lemmas.Bool.{both_ways, and_parts, and_from, not-true, not_from_false, cases_Bool, eq-eqb, ne_eqb}
+use Rattle.std.proofs.lemmas.Bool.{both_ways, and_parts, not-true, cases_Bool, eq-eqb, ne_eqb}
 use Rattle.std.proofs.lemmas.Bool.Decides.{nat_tests}
 use Rattle.packet.specs.declared.range.Range.{Range}
 use Rattle.packet.specs.Packets.{Within}
@@ -44,14 +43,13 @@ calm P o (r ∷ rows) = may P o r.ranges && calm P (some r.ranges) rows
 
 calm-append : (P : List (Range ℕ) → List (Range ℕ) → Bool) (o : Option (List (Range ℕ))) (xs ys : List Row) → calm P o (xs ++ ys) ≡ (calm P o xs && calm P (last o xs) ys)
 calm-append P o [] ys = refl
-calm-append P o (x ∷ xs) ys = ap (λ b. may P o x.ranges && b) (calm-append P (some x.ranges) xs ys)
-    ∙ sym (and_assoc (may P o x.ranges) (calm P (some x.ranges) xs) (calm P (last (some x.ranges) xs) ys))
+calm-append P o (x ∷ xs) ys = grind (arith, nat_tests, calm-append P (some x.ranges) xs ys)
 
 -- the rows under one range
 module _ (P P' : List (Range ℕ) → List (Range ℕ) → Bool) (r : Range ℕ) (same : (a b : List (Range ℕ)) → P (r ∷ a) (r ∷ b) ≡ P' a b) where
   calm-spread : (a : List (Range ℕ)) (rows : List Row) → calm P (some (r ∷ a)) (spread r.low r.high rows) ≡ calm P' (some a) rows
   calm-spread a [] = refl
-  calm-spread a (x ∷ rows) = ap₂ (λ b c. not b && c) (same a x.ranges) (calm-spread x.ranges rows)
+  calm-spread a (x ∷ rows) = grind (arith, nat_tests, same a x.ranges, calm-spread x.ranges rows)
 
   calm_enter : (o : Option (List (Range ℕ))) (rows : List Row) → 0 < length rows → calm P o (spread r.low r.high rows) ≡ (may P o (r ∷ ranges_at rows 0) && calm P' none rows)
   calm_enter o [] h = absurd (omega arith)

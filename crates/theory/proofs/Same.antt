@@ -1,6 +1,6 @@
 -- The test `same_rows` tells equal lists of rows from different ones. Assumes nothing.
-use Rattle.std.proofs.Common.{◌≡◌, ℕ, Bool, true, false, ◌≢◌, ◌⊎◌, List, [], ◌∷◌, sym, refl, ap, ◌∙◌, inl, inr, arith}
-use Rattle.std.proofs.lemmas.Bool.{and_parts, and_from, eqb-true, eq-eqb, both_ways}
+use Rattle.std.proofs.Common.{◌≡◌, ℕ, true, false, ◌≢◌, ◌⊎◌, List, [], ◌∷◌, sym, refl, ap, ◌∙◌, inl, inr, arith}
+use Rattle.std.proofs.lemmas.Bool.{both_ways, cases_Bool}
 use Rattle.std.proofs.lemmas.Bool.Decides.{nat_tests}
 use Rattle.packet.specs.declared.range.Range.{Range}
 use Rattle.theory.specs.Tables.{Row, same_ranges, same_rows}
@@ -27,8 +27,7 @@ rows_same (a ∷ xs) = grind (arith, nat_tests, ranges_same a.ranges, rows_same 
 
 -- either the test passes and the lists are equal, or it fails and they differ
 pub same_tells : (a b : List Row) → ((same_rows a b ≡ true) × (a ≡ b)) ⊎ ((same_rows a b ≡ false) × (a ≢ b))
-same_tells a b = go (same_rows a b) refl
-  where
-    go : (t : Bool) → same_rows a b ≡ t → ((same_rows a b ≡ true) × (a ≡ b)) ⊎ ((same_rows a b ≡ false) × (a ≢ b))
-    go true e = inl (e, rows_eq a b e)
-    go false e = inr (e, λ p. both_ways _ e (ap (same_rows a) (sym p) ∙ rows_same a))
+same_tells a b = elim (cases_Bool (same_rows a b)) [
+  | inl e ↦ inl (e, rows_eq a b e)
+  | inr e ↦ inr (e, λ p. both_ways _ e (ap (same_rows a) (sym p) ∙ rows_same a))
+]
