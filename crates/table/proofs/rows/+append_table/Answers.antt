@@ -10,10 +10,10 @@ use Rattle.theory.specs.Tables as tables
 use Rattle.table.specs.declared.row.Row.{Row}
 use Rattle.table.specs.Rows.{plain, view, most_rows}
 use Rattle.table.specs.Parts.{before, table_from, uncut, cut_between}
-use Rattle.table.proofs.Exits.{none_made, handed_on}
+use Rattle.table.proofs.Exits.{handed_on}
 use Rattle.table.proofs.Views.{cut_put, parts_tell}
 use Rattle.table.proofs.Built.{built_as}
-use Rattle.table.proofs.Steps.{next_field, rows_at, counts_at, leaf, cell_counts, edge_from, first_step, next_step, all_count, last_step}
+use Rattle.table.proofs.Steps.{next_field, rows_at, counts_at, leaf, cell_counts, first_step, next_step, all_count, last_step}
 use Rattle.table.proofs.rows.+append_table.Goals as goal
 use Rattle.table.proofs.rows.+append_table.Goals.{then-are_same, else-are_same+else-len-base-gt-MOST_ROWS}
 
@@ -119,8 +119,8 @@ loop-high-preserved g t c =
 pub returns-clause-rows : goal.returns-clause-rows
 returns-clause-rows g t c =
     ap view (with_items_is c.loop-high.rows (put_mid c.loop-high.start (length lent - c.loop-high.start) lent c.narrow-2.new.rows) (search (rules, places)))
-      ∙ cut_put _ _ (vec_items c.loop-high.rows) lent c.narrow-2.new.rows c.loop-high.start (length lent) (omega (arith, c.loop-high.invariant, c.deref_mut-2.ensures.len)) c.deref_mut-2.ensures.value c.narrow-2.ensures
-      ∙ whole ∙ ap (λ (a : List tables.Row). a ++ uncut (before c.args.fields.now) (table_from (g.S.Source.meaning c.args.source.now) (before c.args.fields.now) (values c.args.at))) was
+    ∙ cut_put _ _ (vec_items c.loop-high.rows) lent c.narrow-2.new.rows c.loop-high.start (length lent) (omega (arith, c.loop-high.invariant, c.deref_mut-2.ensures.len)) c.deref_mut-2.ensures.value c.narrow-2.ensures
+    ∙ whole ∙ ap (λ (a : List tables.Row). a ++ uncut (before c.args.fields.now) (table_from (g.S.Source.meaning c.args.source.now) (before c.args.fields.now) (values c.args.at))) was
   where
     lent : List Row
     lent = c.deref_mut-2.result.now
