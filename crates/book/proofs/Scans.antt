@@ -1,86 +1,103 @@
--- Loops over lists, one step on and at the end. Assumes nothing.
-use Rattle.std.proofs.Common.{◌≡◌, ℕ, suc, ◌+◌, ◌<◌, ◌≤◌, min, Bool, true, false, cond, ◌&&◌, List, [], ◌∷◌, length, get_or, take, drop, sym, ap, ◌∙◌, ap₂, arith}
-use Rattle.std.proofs.lemmas.List.{drop_more, drop_all, at_drop_more, at_drop_all}
+-- What the scans of a book's rules find, as specs/ says it. Assumes nothing.
+use Rattle.std.proofs.Common.{◌≡◌, ℕ, zero, suc, ◌+◌, ◌<◌, ◌≤◌, min, Bool, true, false, cond, ◌&&◌, List, [], ◌∷◌, Option, Some, length, get_or, take, drop, sym, refl, ap, ◌∙◌, ap₂, arith}
+use Rattle.std.specs.List.{list_all, find, zip}
+use Rattle.std.specs.Option.{unwrap_or, option_map}
+use Rattle.std.proofs.lemmas.List.{at_drop_more, at_drop_all}
 use Rattle.packet.specs.declared.range.Range.{Range}
 use Rattle.packet.specs.Packets.{tops}
 use Rattle.packet.specs.Regions.{ranges, range_at, inside, holds, run_end}
 use Rattle.book.specs.declared.rule.Rule.{Rule}
 use Rattle.book.specs.Deciding.{first}
-use Rattle.book.specs.Reach.{run, nearest, all_whole, looked_at}
+use Rattle.book.specs.Reach.{run, nearest, whole, all_whole, in_play, settles, looked_at}
 
--- a test `all` of two lists of one length, pair by pair
-module _ {A B : Type 0} (test : A → B → Bool) (all : List A → List B → Bool) (none : all [] [] ≡ true)
-    (more : (a : A) (b : B) (xs : List A) (ys : List B) → all (a ∷ xs) (b ∷ ys) ≡ (test a b && all xs ys))
-    (xs : List A) (ys : List B) (same : length xs ≡ length ys) (i : ℕ) where
-  opened : (a : A) (b : B) → i < length xs
-      → all (drop i xs) (drop i ys) ≡ (test (get_or xs i a) (get_or ys i b) && all (drop (i + 1) xs) (drop (i + 1) ys))
-  opened a b h = ap₂ all (drop_more xs i a h) (drop_more ys i b (omega arith)) ∙ more (get_or xs i a) (get_or ys i b) (drop (i + 1) xs) (drop (i + 1) ys)
+-- pair by pair, as far as place n
+abbrev pub each_holds : ℕ → List (Range ℕ) → List ℕ → Bool
+each_holds n rs p = list_all (λ x. inside x.0 x.1) (take n (zip rs p))
 
-  pub pair_passed : (a : A) (b : B) → i < length xs → true ≡ test (get_or xs i a) (get_or ys i b)
-      → all (drop i xs) (drop i ys) ≡ all (drop (i + 1) xs) (drop (i + 1) ys)
-  pair_passed a b h e = opened a b h ∙ ap (λ t. t && all (drop (i + 1) xs) (drop (i + 1) ys)) (sym e)
+pub pairs_hold : (n : ℕ) (rs : List (Range ℕ)) (p : List ℕ) → length rs ≡ length p → each_holds n rs p ≡ holds (take n rs) (take n p)
+pairs_hold zero rs p e = refl
+pairs_hold (suc n) [] [] e = refl
+pairs_hold (suc n) [] (v ∷ p) e = absurd (omega arith)
+pairs_hold (suc n) (r ∷ rs) [] e = absurd (omega arith)
+pairs_hold (suc n) (r ∷ rs) (v ∷ p) e = ap (λ b. inside r v && b) (pairs_hold n rs p (omega arith))
 
-  pub pair_failed : (a : A) (b : B) → i < length xs → false ≡ test (get_or xs i a) (get_or ys i b) → all (drop i xs) (drop i ys) ≡ false
-  pair_failed a b h e = opened a b h ∙ ap (λ t. t && all (drop (i + 1) xs) (drop (i + 1) ys)) (sym e)
+-- pair by pair, from place n on
+abbrev pub each_whole : ℕ → List (Range ℕ) → List ℕ → Bool
+each_whole n rs most = list_all (λ x. whole x.1 x.0) (drop n (zip rs most))
 
-  pub pairs_end : length xs ≤ i → all (drop i xs) (drop i ys) ≡ true
-  pairs_end h = ap₂ all (drop_all i xs h) (drop_all i ys (omega arith)) ∙ none
+pub pairs_whole : (n : ℕ) (rs : List (Range ℕ)) (most : List ℕ) → length rs ≡ length most → each_whole n rs most ≡ all_whole (drop n most) (drop n rs)
+pairs_whole zero [] [] e = refl
+pairs_whole zero [] (v ∷ p) e = absurd (omega arith)
+pairs_whole zero (r ∷ rs) [] e = absurd (omega arith)
+pairs_whole zero (r ∷ rs) (v ∷ p) e = ap (λ b. whole v r && b) (pairs_whole zero rs p (omega arith))
+pairs_whole (suc n) [] [] e = refl
+pairs_whole (suc n) [] (v ∷ p) e = absurd (omega arith)
+pairs_whole (suc n) (r ∷ rs) [] e = absurd (omega arith)
+pairs_whole (suc n) (r ∷ rs) (v ∷ p) e = pairs_whole n rs p (omega arith)
 
--- the first rule that holds a packet
-module _ (silent : ℕ) (rules : List Rule) (p : List ℕ) (i : ℕ) where
-  opened_first : (d : Rule) → i < length rules
-      → first silent (drop i rules) p ≡ cond (holds (ranges (get_or rules i d).region) p) (get_or rules i d).decision (first silent (drop (i + 1) rules) p)
-  unfolding first
-  opened_first d h = at_drop_more (λ l. first silent l p) rules i d h
+found_first : (silent rest : ℕ) (b : Bool) (rule : Rule) (later : Option Rule) → unwrap_or (option_map (λ r. r.decision) later) silent ≡ rest
+    → unwrap_or (option_map (λ r. r.decision) (cond b (Some rule) later)) silent ≡ cond b rule.decision rest
+found_first silent rest true rule later e = refl
+found_first silent rest false rule later e = e
 
-  pub first_here : (d : Rule) → i < length rules → true ≡ holds (ranges (get_or rules i d).region) p → first silent (drop i rules) p ≡ (get_or rules i d).decision
-  first_here d h e = opened_first d h ∙ ap (λ t. cond t (get_or rules i d).decision (first silent (drop (i + 1) rules) p)) (sym e)
+-- the decision of the rule that is found
+pub first_found : (silent : ℕ) (p : List ℕ) (rules : List Rule)
+    → unwrap_or (option_map (λ rule. rule.decision) (find (λ rule. holds (ranges rule.region) p) rules)) silent ≡ first silent rules p
+unfolding first
+first_found silent p [] = refl
+first_found silent p (rule ∷ rules) =
+    found_first silent (first silent rules p) (holds (ranges rule.region) p) rule (find (λ r. holds (ranges r.region) p) rules) (first_found silent p rules)
 
-  pub first_passed : (d : Rule) → i < length rules → false ≡ holds (ranges (get_or rules i d).region) p
-      → first silent (drop i rules) p ≡ first silent (drop (i + 1) rules) p
-  first_passed d h e = opened_first d h ∙ ap (λ t. cond t (get_or rules i d).decision (first silent (drop (i + 1) rules) p)) (sym e)
-
-  pub first_end : length rules ≤ i → first silent (drop i rules) p ≡ silent
-  unfolding first
-  first_end h = at_drop_all (λ l. first silent l p) rules i h
-
--- the nearest end of the rules looked at, where rs are the ranges of the rule at i
-module _ (f : ℕ) (p : List ℕ) (rules : List Rule) (i : ℕ) (most : List ℕ) (m : most ≡ tops) where
+-- the nearest end of the rules looked at from the rule at i on, which has the ranges rs
+module _ (f : ℕ) (p : List ℕ) (rules : List Rule) (i : ℕ) where
   abbrev from : ℕ → ℕ
   from k = nearest f p (looked_at f p (drop k rules))
 
-  module _ (d : Rule) (h : i < length rules) (rs : List (Range ℕ)) (e : rs ≡ ranges (get_or rules i d).region) where
-    abbrev plays : Bool
-    plays = holds (take f rs) (take f p)
-
-    abbrev sure : Bool
-    sure = inside (range_at rs f) (get_or p f 0) && all_whole (drop (suc f) most) (drop (suc f) rs)
+  module _ (d : Rule) (h : i < length rules) where
+    abbrev here : Rule
+    here = get_or rules i d
 
     abbrev picked : Bool → Bool → List Rule
-    picked a b = cond a (get_or rules i d ∷ cond b [] (looked_at f p (drop (i + 1) rules))) (looked_at f p (drop (i + 1) rules))
+    picked a b = cond a (here ∷ cond b [] (looked_at f p (drop (i + 1) rules))) (looked_at f p (drop (i + 1) rules))
 
-    opened_look : from i ≡ nearest f p (picked plays sure)
+    opened : from i ≡ nearest f p (picked (in_play f p here) (settles f p here))
     unfolding looked_at
-    opened_look = rw (e, m) (at_drop_more (λ l. nearest f p (looked_at f p l)) rules i d h)
+    opened = at_drop_more (λ l. nearest f p (looked_at f p l)) rules i d h
 
-    pub look_past : false ≡ plays → from i ≡ from (i + 1)
-    look_past out = opened_look ∙ ap (λ a. nearest f p (picked a sure)) (sym out)
+    module _ (n : ℕ) (rs : List (Range ℕ)) (vs : List ℕ) (at : n ≡ f) (e : rs ≡ ranges here.region) (same : vs ≡ p) (long : length p ≡ length tops) where
+      plays : each_holds n rs vs ≡ in_play f p here
+      plays = ap (λ k. each_holds k rs vs) at ∙ ap₂ (each_holds f) e same ∙ pairs_hold f (ranges here.region) p (sym long)
 
-    module _ (end : ℕ) (is : end ≡ run_end (get_or most f 0) (range_at rs f) (get_or p f 0)) where
-      same_end : run f p (get_or rules i d) ≡ end
-      same_end = sym (is ∙ ap₂ (λ l ranges. run_end (get_or l f 0) (range_at ranges f) (get_or p f 0)) m e)
+      pub look_past : false ≡ each_holds n rs vs → from i ≡ from (i + 1)
+      look_past out = opened ∙ ap (λ a. nearest f p (picked a (settles f p here))) (sym plays ∙ sym out)
 
-      pub look_on : true ≡ plays → false ≡ sure → from i ≡ min end (from (i + 1))
-      unfolding nearest
-      look_on inn more = opened_look ∙ ap₂ (λ a b. nearest f p (picked a b)) (sym inn) (sym more) ∙ ap (λ n. min n (from (i + 1))) same_end
+      module _ (most : List ℕ) (range : Range ℕ) (value top end : ℕ) (all : most ≡ tops)
+          (own : range ≡ range_at (ranges here.region) f) (this : value ≡ get_or p f 0) (upper : top ≡ get_or tops f 0) (is : end ≡ run_end top range value) where
+        ends : run f p here ≡ end
+        ends = sym (is ∙ ap (λ t. run_end t range value) upper ∙ ap₂ (λ r v. run_end (get_or tops f 0) r v) own this)
 
-      pub look_outside : true ≡ plays → false ≡ inside (range_at rs f) (get_or p f 0) → from i ≡ min end (from (i + 1))
-      look_outside inn out = look_on inn (ap (λ b. b && all_whole (drop (suc f) most) (drop (suc f) rs)) out)
+        abbrev sure : Bool
+        sure = inside range value && each_whole (n + 1) rs most
 
-      pub look_last : true ≡ plays → true ≡ sure → from i ≡ min end (get_or most f 0)
-      unfolding nearest
-      look_last inn last = opened_look ∙ ap₂ (λ a b. nearest f p (picked a b)) (sym inn) (sym last) ∙ ap₂ min same_end (ap (λ l. get_or l f 0) (sym m))
+        settled : sure ≡ settles f p here
+        settled =
+            let behind : n + 1 ≡ suc f = omega (arith, at) in
+            ap₂ (λ a b. a && b) (ap₂ inside own this) (ap (λ k. each_whole k rs most) behind ∙ ap₂ (each_whole (suc f)) e all ∙ pairs_whole (suc f) (ranges here.region) tops refl)
 
-  pub look_end : length rules ≤ i → from i ≡ get_or most f 0
+        both : (a b : Bool) → a ≡ each_holds n rs vs → b ≡ sure → from i ≡ nearest f p (picked a b)
+        both a b x y = opened ∙ ap₂ (λ s t. nearest f p (picked s t)) (sym plays ∙ sym x) (sym settled ∙ sym y)
+
+        pub look_on : true ≡ each_holds n rs vs → false ≡ sure → from i ≡ min end (from (i + 1))
+        unfolding nearest
+        look_on inn more = both true false inn more ∙ ap (λ n. min n (from (i + 1))) ends
+
+        pub look_outside : true ≡ each_holds n rs vs → false ≡ inside range value → from i ≡ min end (from (i + 1))
+        look_outside inn out = look_on inn (ap (λ b. b && each_whole (n + 1) rs most) out)
+
+        pub look_last : true ≡ each_holds n rs vs → true ≡ sure → from i ≡ min end top
+        unfolding nearest
+        look_last inn last = both true true inn last ∙ ap₂ min ends (sym upper)
+
+  pub look_end : length rules ≤ i → from i ≡ get_or tops f 0
   unfolding nearest looked_at
-  look_end h = at_drop_all (λ l. nearest f p (looked_at f p l)) rules i h ∙ ap (λ l. get_or l f 0) (sym m)
+  look_end h = at_drop_all (λ l. nearest f p (looked_at f p l)) rules i h

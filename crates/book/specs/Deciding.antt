@@ -1,5 +1,6 @@
 -- What a list of rules decides. Cited by src/book/source.rt. Assumes nothing.
-use Rattle.std.specs.Prelude.{ℕ, cond, List, [], ◌∷◌, nat_lt}
+use Rattle.std.specs.Prelude.{ℕ, cond, List, [], ◌∷◌}
+use Rattle.decision.specs.Kinds.{known}
 use Rattle.packet.specs.Regions.{ranges, holds}
 use Rattle.book.specs.declared.rule.Rule.{Rule}
 
@@ -8,10 +9,6 @@ unfoldable pub first : ℕ → List Rule → List ℕ → ℕ
 first silent [] p = silent
 first silent (rule ∷ rules) p = cond (holds (ranges rule.region) p) rule.decision (first silent rules p)
 
--- a number that is no decision of the kind counts as the silent one
-abbrev pub known : ℕ → ℕ → ℕ → ℕ
-known count silent d = cond (nat_lt d count) d silent
-
--- what a book decides
+-- what a book decides; a number that is no decision of the kind counts as the silent one
 abbrev pub meant : ℕ → ℕ → List Rule → List ℕ → ℕ
 meant count silent rules p = known count silent (first silent rules p)

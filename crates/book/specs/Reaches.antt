@@ -3,7 +3,9 @@ use Rattle.std.specs.Prelude.{◌≡◌, ℕ, suc, ◌<◌, ◌≤◌, min, Bool
 use Rattle.std.proofs.Math.Path.{refl, sym, ap, ap₂}
 use Rattle.std.proofs.Common.{◌∙◌}
 use native.Mathlib.Omega.{arith}
-use Rattle.std.proofs.lemmas.Bool.{false≢true, and_parts, and_from, eqb-true, leb-true, le-leb}
+use Rattle.std.proofs.lemmas.Bool.{false≢true, and_parts}
+use Rattle.decision.specs.Kinds.{known}
+use Rattle.std.proofs.lemmas.Bool.Decides.{nat_tests}
 use Rattle.packet.specs.declared.range.Range.{Range}
 use Rattle.packet.specs.Packets.{Within, tops}
 use Rattle.packet.specs.Regions.{ranges, range_at, inside, holds}
@@ -11,8 +13,8 @@ use Rattle.packet.proofs.Values.{long, at_most}
 use Rattle.packet.proofs.Holding.{holds_at, run_alike, run_from}
 use Rattle.policy.specs.Edges.{Alike, Edge}
 use Rattle.book.specs.declared.rule.Rule.{Rule}
-use Rattle.book.specs.Deciding.{first, known, meant}
-use Rattle.book.specs.Reach.{run, nearest, in_play, whole, all_whole, settles, looked_at, Stops}
+use Rattle.book.specs.Deciding.{first, meant}
+use Rattle.book.specs.Reach.{run, nearest, in_play, all_whole, settles, looked_at, Stops}
 
 -- whole ranges hold whatever values there are
 whole_holds : (most : List ℕ) (rs : List (Range ℕ)) (p : List ℕ) → all_whole most rs ≡ true → Within most p → holds rs p ≡ true
@@ -21,12 +23,7 @@ whole_holds [] [] (v ∷ p) h w = absurd w
 whole_holds [] (r ∷ rs) p h w = absurd (false≢true h)
 whole_holds (top ∷ most) [] p h w = absurd (false≢true h)
 whole_holds (top ∷ most) (r ∷ rs) [] h w = absurd w
-whole_holds (top ∷ most) (r ∷ rs) (v ∷ p) h w =
-    let both = and_parts (whole top r) (all_whole most rs) h in
-    let ends = and_parts _ _ both.0 in
-    let low = eqb-true r.low 0 ends.0 in
-    let high = leb-true top r.high ends.1 in
-    and_from (inside r v) (holds rs p) (and_from _ _ (le-leb r.low v (omega arith)) (le-leb v r.high (omega (arith, w.0)))) (whole_holds most rs p both.1 w.1)
+whole_holds (top ∷ most) (r ∷ rs) (v ∷ p) h w = grind (arith, nat_tests, whole_holds most rs p)
 
 module _ (f : ℕ) (p : List ℕ) where
   -- the nearest end lies between p's value and the largest

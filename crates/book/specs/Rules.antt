@@ -1,5 +1,5 @@
 -- What holds of the rules of a book. Cited by src/book.rt. Assumes nothing.
-use Rattle.std.specs.Prelude.{◌≡◌, ℕ, ◌<◌, false, List, length, slice_index_or}
+use Rattle.std.specs.Prelude.{◌≡◌, false, All, List}
 use Rattle.packet.specs.Regions.{ranges, any_reversed}
 use Rattle.book.specs.declared.rule.Rule.{Rule}
 
@@ -9,4 +9,4 @@ Forward rule = any_reversed (ranges rule.region) ≡ false
 
 -- no range of any of the rules is reversed
 abbrev pub AllForward : List Rule → Type 0
-AllForward rules = (k : ℕ) (d : Rule) → k < length rules → Forward (slice_index_or rules k d)
+AllForward rules = All Forward rules

@@ -46,23 +46,28 @@ unfolding from_rule
 few i [] h = omega arith
 few i (a ∷ rules) h = simp length-append (omega (arith, later_few i a (suc i) rules, few (suc i) rules (omega arith)))
 
--- the rules from one on: that one with those behind it, and then the next
-pub rule_more : (rules : List Rule) (first : ℕ) (d : Rule) → first < length rules → from_rule first (drop first rules) ≡ with_later first (get_or rules first d) (first + 1) (drop (first + 1) rules) ++ from_rule (first + 1) (drop (first + 1) rules)
+-- the rules from one on: that one with those behind it, and then these
+pub rule_more : (rules later : List Rule) (first : ℕ) (d : Rule) → later ≡ drop (first + 1) rules → first < length rules
+    → from_rule first (drop first rules) ≡ with_later first (get_or rules first d) (first + 1) later ++ from_rule (first + 1) later
 unfolding from_rule
-rule_more rules first d h = ap (from_rule first) (drop_more rules first d h) ∙ ap (λ n. with_later first (get_or rules first d) n (drop (first + 1) rules) ++ from_rule n (drop (first + 1) rules)) (sym (add-one first))
+rule_more rules later first d e h =
+    ap (from_rule first) (drop_more rules first d h)
+    ∙ ap₂ (λ n bs. with_later first (get_or rules first d) n bs ++ from_rule n bs) (sym (add-one first)) (sym e)
 
 pub rule_end : (rules : List Rule) (first : ℕ) → length rules ≤ first → from_rule first (drop first rules) ≡ []
 unfolding from_rule
 rule_end rules first h = ap (from_rule first) (drop_all first rules h)
 
--- a rule with those from another on: with that one, and then with the next
-pub later_more : (i : ℕ) (a : Rule) (rules : List Rule) (second : ℕ) (d : Rule) (h : Option Hiding) (rest : List Finding) → second < length rules → h ≡ hiding_of a (get_or rules second d) → with_later i a second (drop second rules) ++ rest ≡ found i second h ++ (with_later i a (second + 1) (drop (second + 1) rules) ++ rest)
+-- a rule with those from the one at k on: with that one, and then with the next
+pub later_more : (i : ℕ) (a : Rule) (start : ℕ) (later : List Rule) (k : ℕ) (d : Rule) (h : Option Hiding) (rest : List Finding) → k < length later → h ≡ hiding_of a (get_or later k d)
+    → with_later i a (start + k) (drop k later) ++ rest ≡ found i (start + k) h ++ (with_later i a (start + (k + 1)) (drop (k + 1) later) ++ rest)
 unfolding with_later
-later_more i a rules second d h rest l e =
-    ap (λ bs. with_later i a second bs ++ rest) (drop_more rules second d l)
-    ∙ ap₂ (λ o n. (found i second o ++ with_later i a n (drop (second + 1) rules)) ++ rest) (sym e) (sym (add-one second))
-    ∙ append_assoc (found i second h) _ rest
+later_more i a start later k d h rest l e =
+    let next : suc (start + k) ≡ start + (k + 1) = omega arith in
+    ap (λ bs. with_later i a (start + k) bs ++ rest) (drop_more later k d l)
+    ∙ ap₂ (λ o n. (found i (start + k) o ++ with_later i a n (drop (k + 1) later)) ++ rest) (sym e) next
+    ∙ append_assoc (found i (start + k) h) _ rest
 
-pub later_end : (i : ℕ) (a : Rule) (rules : List Rule) (second : ℕ) (rest : List Finding) → length rules ≤ second → with_later i a second (drop second rules) ++ rest ≡ rest
+pub later_end : (i : ℕ) (a : Rule) (j : ℕ) (later : List Rule) (k : ℕ) (rest : List Finding) → length later ≤ k → with_later i a j (drop k later) ++ rest ≡ rest
 unfolding with_later
-later_end i a rules second rest h = ap (λ l. with_later i a second l ++ rest) (drop_all second rules h)
+later_end i a j later k rest h = ap (λ l. with_later i a j l ++ rest) (drop_all k later h)

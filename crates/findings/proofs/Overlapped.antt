@@ -1,28 +1,17 @@
 -- The tests on ranges mean what they say of packets. Assumes nothing.
 use Rattle.std.proofs.Common.{◌≡◌, ℕ, ◌≤◌, min, max, true, false, List, [], ◌∷◌, Decides, refl, inl, inr, arith}
-use Rattle.std.proofs.lemmas.Bool.{false≢true, and_parts, and_from, or_cases, or_parts, or_left, or_right, leb-true, le-leb, ltb-true, ltb-false, cases_Bool}
+use Rattle.std.proofs.lemmas.Bool.{false≢true, and_parts, or_cases, or_parts, or_left, or_right, leb-true, ltb-false, cases_Bool}
+use Rattle.std.proofs.lemmas.Bool.Decides.{nat_tests}
 use Rattle.packet.specs.declared.range.Range.{Range}
 use Rattle.packet.specs.Packets.{Within, tops}
-use Rattle.packet.specs.Regions.{inside, reversed, holds, any_reversed, Fit}
+use Rattle.packet.specs.Regions.{reversed, holds, any_reversed, Fit}
 use Rattle.findings.specs.Overlaps.{Covers, Shares, reaches_over, covers_ranges, shares_ranges}
-
-inside_parts : (r : Range ℕ) (v : ℕ) → inside r v ≡ true → (r.low ≤ v) × (v ≤ r.high)
-inside_parts r v h = let p = and_parts _ _ h in (leb-true r.low v p.0, leb-true v r.high p.1)
-
-inside_from : (r : Range ℕ) (v : ℕ) → r.low ≤ v → v ≤ r.high → inside r v ≡ true
-inside_from r v l h = and_from _ _ (le-leb r.low v l) (le-leb v r.high h)
 
 -- reversed ranges hold nothing
 none_held : (rs : List (Range ℕ)) (p : List ℕ) → any_reversed rs ≡ true → holds rs p ≡ true → ⊥
 none_held [] p h k = false≢true h
 none_held (r ∷ rs) [] h k = false≢true k
-none_held (r ∷ rs) (v ∷ p) h k =
-    let parts = and_parts _ _ k in
-    let ends = inside_parts r v parts.0 in
-    elim (or_cases (reversed r) (any_reversed rs) h) [
-      | inl e ↦ omega (arith, ltb-true r.high r.low e)
-      | inr e ↦ none_held rs p e parts.1
-    ]
+none_held (r ∷ rs) (v ∷ p) h k = grind (arith, nat_tests, none_held rs p)
 
 over_holds : (a b : List (Range ℕ)) (p : List ℕ) → reaches_over a b ≡ true → holds b p ≡ true → holds a p ≡ true
 unfolding reaches_over
@@ -30,14 +19,7 @@ over_holds [] [] p h k = k
 over_holds [] (s ∷ b) p h k = absurd (false≢true h)
 over_holds (r ∷ a) [] p h k = absurd (false≢true h)
 over_holds (r ∷ a) (s ∷ b) [] h k = absurd (false≢true k)
-over_holds (r ∷ a) (s ∷ b) (v ∷ p) h k =
-    let over = and_parts _ _ h in
-    let ends = and_parts _ _ over.0 in
-    let held = and_parts _ _ k in
-    let v_in = inside_parts s v held.0 in
-    let low = leb-true r.low s.low ends.0 in
-    let high = leb-true s.high r.high ends.1 in
-    and_from _ _ (inside_from r v (omega arith) (omega arith)) (over_holds a b p over.1 held.1)
+over_holds (r ∷ a) (s ∷ b) (v ∷ p) h k = grind (arith, nat_tests, over_holds a b p)
 
 -- the packets at the low and at the high corner of ranges
 lows : List (Range ℕ) → List ℕ
@@ -59,7 +41,7 @@ lows_held (t ∷ ts) [] f h = absurd f
 lows_held (t ∷ ts) (r ∷ rs) f h =
     let fw = forward r rs h in
     let more = lows_held ts rs f.2 fw.1 in
-    ((f.0, more.0), and_from _ _ (inside_from r r.low (omega arith) fw.0) more.1)
+    ((f.0, more.0), grind (arith, nat_tests, more.1))
 
 highs_held : (ts : List ℕ) (rs : List (Range ℕ)) → Fit ts rs → any_reversed rs ≡ false → Within ts (highs rs) × (holds rs (highs rs) ≡ true)
 unfolding highs
@@ -69,7 +51,7 @@ highs_held (t ∷ ts) [] f h = absurd f
 highs_held (t ∷ ts) (r ∷ rs) f h =
     let fw = forward r rs h in
     let more = highs_held ts rs f.2 fw.1 in
-    ((f.1, more.0), and_from _ _ (inside_from r r.high fw.0 (omega arith)) more.1)
+    ((f.1, more.0), grind (arith, nat_tests, more.1))
 
 -- ranges that hold both corners reach over
 corners_over : (a b : List (Range ℕ)) → holds a (lows b) ≡ true → holds a (highs b) ≡ true → reaches_over a b ≡ true
@@ -77,10 +59,7 @@ unfolding lows highs reaches_over
 corners_over [] [] h k = refl
 corners_over [] (s ∷ b) h k = absurd (false≢true h)
 corners_over (r ∷ a) [] h k = absurd (false≢true h)
-corners_over (r ∷ a) (s ∷ b) h k =
-    let l = and_parts _ _ h in
-    let u = and_parts _ _ k in
-    and_from _ _ (and_from _ _ (le-leb _ _ (inside_parts r s.low l.0).0) (le-leb _ _ (inside_parts r s.high u.0).1)) (corners_over a b l.1 u.1)
+corners_over (r ∷ a) (s ∷ b) h k = grind (arith, nat_tests, corners_over a b)
 
 pub covers_means : (a b : List (Range ℕ)) → Fit tops b → Decides (covers_ranges a b) (Covers a b)
 unfolding Covers
@@ -119,8 +98,8 @@ starts_held (t ∷ ts) (r ∷ a) (s ∷ b) f g h =
     let met = leb-true (max r.low s.low) (min r.high s.high) parts.0 in
     let more = starts_held ts a b f.2 g.2 parts.1 in (
       (omega (arith, f.0, g.0), more.0),
-      and_from _ _ (inside_from r (max r.low s.low) (omega arith) (omega arith)) more.1,
-      and_from _ _ (inside_from s (max r.low s.low) (omega arith) (omega arith)) more.2,
+      grind (arith, nat_tests, more.1),
+      grind (arith, nat_tests, more.2),
     )
 
 held_shares : (a b : List (Range ℕ)) (p : List ℕ) → holds a p ≡ true → holds b p ≡ true → shares_ranges a b ≡ true
@@ -130,12 +109,7 @@ held_shares [] (s ∷ b) [] h k = absurd (false≢true k)
 held_shares [] (s ∷ b) (v ∷ p) h k = absurd (false≢true h)
 held_shares (r ∷ a) b [] h k = absurd (false≢true h)
 held_shares (r ∷ a) [] (v ∷ p) h k = absurd (false≢true k)
-held_shares (r ∷ a) (s ∷ b) (v ∷ p) h k =
-    let x = and_parts _ _ h in
-    let y = and_parts _ _ k in
-    let vr = inside_parts r v x.0 in
-    let vs = inside_parts s v y.0 in
-    and_from _ _ (le-leb (max r.low s.low) (min r.high s.high) (omega arith)) (held_shares a b p x.1 y.1)
+held_shares (r ∷ a) (s ∷ b) (v ∷ p) h k = grind (arith, nat_tests, held_shares a b p)
 
 pub shares_means : (a b : List (Range ℕ)) → Fit tops a → Fit tops b → Decides (shares_ranges a b) (Shares a b)
 unfolding Shares

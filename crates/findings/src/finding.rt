@@ -2,17 +2,17 @@
 ghost use Rattle.std.specs.Prelude.{◌≡◌};
 ghost use Rattle.findings.specs.Hidings.{hiding_number};
 
-// How two rules of a book hide each other.
+// How two rules of a book hide each other. The discriminant is the number by which a finding is reported.
 #[derive(Clone, Copy, PartialEq, Eq, Debug)]
 pub enum Hiding {
-    // 1: the first covers the second, and their decisions are equal.
-    Redundant,
-    // 2: the first covers the second.
-    Shadowed,
-    // 3: the second covers the first, and their decisions differ.
-    Generalised,
-    // 4: they share a packet, and their decisions differ.
-    Correlated,
+    // The first covers the second, and their decisions are equal.
+    Redundant = 1,
+    // The first covers the second.
+    Shadowed = 2,
+    // The second covers the first, and their decisions differ.
+    Generalised = 3,
+    // They share a packet, and their decisions differ.
+    Correlated = 4,
 }
 
 impl Hiding {
@@ -20,12 +20,7 @@ impl Hiding {
     pub fn number(self) -> u8
         ensures { result ≡ hiding_number self }
     {
-        match self {
-            Hiding::Redundant => 1,
-            Hiding::Shadowed => 2,
-            Hiding::Generalised => 3,
-            Hiding::Correlated => 4,
-        }
+        self as u8
     }
 }
 

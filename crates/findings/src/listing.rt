@@ -10,12 +10,14 @@ use book::{Book, Rule};
 use decision::Kind;
 
 // Writes the book's findings to the first entries and answers how many there are; the other entries stay.
+#[tactic(auto, using(crate::proofs::Listed::written_over))]
 pub fn findings<K: Kind>(book: &Book<K>, entries: &mut [Finding]) -> Result<usize, TooShort>
     ensures answer { result ≡ count_of (findings_of (rules_of book.now)) (length entries.old) }
     ensures entries { entries.new ≡ entries_after (findings_of (rules_of book.now)) entries.old }
     ensures packets { Faithful (rules_of book.now) }
 {
     let rules = book.rules();
+    // With no entries to write to, they are only counted.
     let count = list(rules, &mut []);
     if count > entries.len() {
         return Err(TooShort);
@@ -23,7 +25,8 @@ pub fn findings<K: Kind>(book: &Book<K>, entries: &mut [Finding]) -> Result<usiz
     Ok(list(rules, entries))
 }
 
-// Writes the rules' findings to the first entries, as far as these reach, and answers how many findings there are.
+// Writes the rules' findings to the first entries, as far as these reach, and answers how many findings there are. An iterator of
+// the findings would be no plainer: it would keep both positions and step them by hand.
 fn list(rules: &[Rule], entries: &mut [Finding]) -> usize
     requires { length rules.now ≤ 64 }
     ensures count { result ≡ length (findings_of rules.now) }
@@ -31,14 +34,15 @@ fn list(rules: &[Rule], entries: &mut [Finding]) -> usize
     ensures packets { Faithful rules.now }
 {
     let mut count = 0;
-    for first in 0..rules.len() {
-        let rule = rules[first];
-        for second in first + 1..rules.len() {
-            if let Some(hiding) = hiding(rule, rules[second]) {
+    for (first, rule) in rules.iter().enumerate() {
+        let later = &rules[first + 1..];
+        for (ahead, other) in later.iter().enumerate() {
+            if let Some(hiding) = hiding(*rule, *other) {
+                // By index, since of what is written through a slice's get_mut a proof knows no element.
                 if count < entries.len() {
                     entries[count] = Finding {
                         first,
-                        second,
+                        second: first + 1 + ahead,
                         hiding,
                     };
                 }

@@ -1,7 +1,7 @@
 // Whether regions cover each other or share a packet.
-ghost use Rattle.std.specs.Prelude.{◌≡◌, length, Decides};
-ghost use Rattle.packet.specs.Packets.{tops};
-ghost use Rattle.packet.specs.Regions.{ranges, Fit};
+ghost use Rattle.std.specs.Prelude.{◌≡◌, min, max, ◌&&◌, nat_le, Decides};
+ghost use Rattle.std.specs.List.{list_all, zip};
+ghost use Rattle.packet.specs.Regions.{ranges};
 ghost use Rattle.findings.specs.Overlaps.{covers_ranges, shares_ranges, Covers, Shares};
 
 use packet::{Range, Region};
@@ -11,7 +11,9 @@ pub fn covers(first: Region, second: Region) -> bool
     ensures test { result ≡ covers_ranges (ranges first) (ranges second) }
     ensures packets { Decides result (Covers (ranges first) (ranges second)) }
 {
-    cover(&first.to_array(), &second.to_array())
+    let wide = first.to_array();
+    let narrow = second.to_array();
+    second.is_reversed() || reach_over(&wide, &narrow)
 }
 
 // Is there a packet that both regions hold?
@@ -22,40 +24,16 @@ pub fn shares(first: Region, second: Region) -> bool
     meet(&first.to_array(), &second.to_array())
 }
 
-// Is a narrow range reversed, or does each wide range reach over the narrow one at its place, at both ends?
-fn cover(wide: &[Range<u32>], narrow: &[Range<u32>]) -> bool
-    requires places { length wide.now ≡ length narrow.now }
-    requires fit { Fit tops narrow.now }
-    ensures test { result ≡ covers_ranges wide.now narrow.now }
-    ensures packets { Decides result (Covers wide.now narrow.now) }
+// Does each wide range reach over the narrow one at its place, at both ends?
+fn reach_over(wide: &[Range<u32>], narrow: &[Range<u32>]) -> bool
+    ensures { result ≡ list_all (λ pair. nat_le pair.0.low pair.1.low && nat_le pair.1.high pair.0.high) (zip wide.now narrow.now) }
 {
-    let mut over = true;
-    for i in 0..wide.len() {
-        let one = wide[i];
-        let other = narrow[i];
-        if other.is_reversed() {
-            return true;
-        }
-        if one.low > other.low || other.high > one.high {
-            over = false;
-        }
-    }
-    over
+    wide.iter().zip(narrow).all(|(wide, narrow)| wide.low <= narrow.low && narrow.high <= wide.high)
 }
 
 // Does each range share a value with the other one at its place?
 fn meet(first: &[Range<u32>], second: &[Range<u32>]) -> bool
-    requires places { length first.now ≡ length second.now }
-    requires fit { (Fit tops first.now) × (Fit tops second.now) }
-    ensures test { result ≡ shares_ranges first.now second.now }
-    ensures packets { Decides result (Shares first.now second.now) }
+    ensures { result ≡ list_all (λ pair. nat_le (max pair.0.low pair.1.low) (min pair.0.high pair.1.high)) (zip first.now second.now) }
 {
-    for i in 0..first.len() {
-        let one = first[i];
-        let other = second[i];
-        if one.low.max(other.low) > one.high.min(other.high) {
-            return false;
-        }
-    }
-    true
+    first.iter().zip(second).all(|(one, other)| one.low.max(other.low) <= one.high.min(other.high))
 }

@@ -1,7 +1,7 @@
 -- How the rows of a source grow while the values of one field are gone through. Assumes nothing.
-use Rattle.std.proofs.Common.{◌≡◌, ℕ, ◌+◌, ◌<◌, ◌≤◌, min, Bool, true, false, List, [], ◌∷◌, ◌++◌, length, get_or, take, drop, set, Decides, sym, refl, ap, ◌∙◌, subst, ap₂, add-one, arith}
-use Rattle.std.specs.List.{between}
-use Rattle.std.proofs.lemmas.List.{append-nil, append_assoc, drop_more, drop_all, map_push, take_all, take_at, take-set, take_more_set, get_or-set_same}
+use Rattle.std.proofs.Common.{◌≡◌, ℕ, ◌+◌, ◌<◌, ◌≤◌, min, Bool, true, false, List, [], ◌∷◌, ◌++◌, length, length-drop, get_or, take, drop, set, Decides, sym, refl, ap, ◌∙◌, subst, ap₂, add-one, arith}
+use Rattle.std.specs.List.{between, slice_range}
+use Rattle.std.proofs.lemmas.List.{append-nil, append_assoc, drop_more, drop_all, map_push, take_all, take_rest, take_at, take-set, take_more_set, get_or-set_same}
 use Rattle.packet.specs.declared.range.Range.{Range}
 use Rattle.packet.specs.declared.packet.Packet.{Packet}
 use Rattle.packet.specs.declared.field.Field.{Field}
@@ -13,7 +13,7 @@ use Rattle.theory.specs.Tables.{Row, table, sub_table}
 use Rattle.theory.proofs.Runs.{Constant, sub_table_counts}
 use Rattle.table.specs.declared.row.Row as code
 use Rattle.table.specs.Rows.{plain, view}
-use Rattle.table.specs.Parts.{table_from, whole, uncut, cut_between}
+use Rattle.table.specs.Parts.{all_fields, before, AreLast, table_from, whole, uncut, cut_between}
 use Rattle.table.proofs.Built.{Built, built_first, built_next, built_whole, new_counts}
 
 -- before the first field there is nothing to cut
@@ -32,6 +32,30 @@ leaf m f at h row w e rows all i =
     ap view i ∙ map_push plain rows row
     ∙ ap₂ R (w ∙ sym (append-nil (take f whole) ∙ take_all f whole h)) (e ∙ sym (ap m (append-nil (take f p) ∙ take_all f p h)))
     ∙ sym (ap (λ (a : List ℕ). view rows ++ uncut f (table a (λ q. m (take f p ++ q)))) (drop_all f tops h))
+
+-- the first of the last fields has its place, and those behind it are the last ones too
+pub next_place : (h : Field) (later : List Field) → AreLast (h ∷ later) → (place h ≡ before (h ∷ later)) × (before later ≡ before (h ∷ later) + 1) × AreLast later
+next_place h [] e = let k : h ≡ Protocol = cc in (ap place k, refl, refl)
+next_place h (a ∷ []) e = let k : h ≡ DestinationPort = cc in (ap place k, refl, cc)
+next_place h (a ∷ b ∷ []) e = let k : h ≡ Destination = cc in (ap place k, refl, cc)
+next_place h (a ∷ b ∷ c ∷ []) e = let k : h ≡ SourcePort = cc in (ap place k, refl, cc)
+next_place h (a ∷ b ∷ c ∷ d ∷ []) e = let k : h ≡ Source = cc in (ap place k, refl, cc)
+next_place h (a ∷ b ∷ c ∷ d ∷ k ∷ later) e = absurd (omega (arith, ap length e, length-drop (before (h ∷ a ∷ b ∷ c ∷ d ∷ k ∷ later)) all_fields))
+
+-- the same where those behind the first are a slice
+pub next_field : (fields : List Field) (d : Field) → 1 ≤ length fields → AreLast fields
+    → (place (get_or fields 0 d) ≡ before fields) × (before (slice_range fields 1 (length fields)) ≡ before fields + 1) × AreLast (slice_range fields 1 (length fields))
+next_field [] d l e = absurd (omega arith)
+next_field (h ∷ later) d l e =
+    subst (λ (x : List Field). (place h ≡ before (h ∷ later)) × (before x ≡ before (h ∷ later) + 1) × AreLast x) (sym (take_rest (h ∷ later) 1)) (next_place h later e)
+
+-- what is put behind rows for the fields from k on, where k is f + 1
+module _ (k f : ℕ) (m : List ℕ → ℕ) where
+  pub rows_at : (was : List Row) (at : Packet) → k ≡ f + 1 → (was ++ uncut k (table_from m k (values at))) ≡ (was ++ uncut (f + 1) (table_from m (f + 1) (values at)))
+  rows_at was at e = ap (λ n. was ++ uncut n (table_from m n (values at))) e
+
+  pub counts_at : (at : Packet) → k ≡ f + 1 → length (table_from m k (values at)) ≡ length (table_from m (f + 1) (values at))
+  counts_at at e = ap (λ n. length (table_from m n (values at))) e
 
 place_below : (h : Field) → place h < length tops
 place_below Source = omega arith

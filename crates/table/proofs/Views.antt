@@ -1,8 +1,9 @@
 -- The view of rows. Assumes nothing.
-use Rattle.std.proofs.Common.{◌≡◌, ℕ, ◌+◌, ◌-◌, ◌<◌, ◌≤◌, List, [], ◌∷◌, ◌++◌, map, length, get_or, take, drop, set, sym, refl, ap, ◌∙◌, ap₂, arith}
+use Rattle.std.proofs.Common.{◌≡◌, ℕ, ◌+◌, ◌-◌, ◌<◌, ◌≤◌, Bool, List, [], ◌∷◌, ◌++◌, map, length, get_or, take, drop, set, Decides, sym, refl, ap, ◌∙◌, ap₂, arith}
 use borrow.Rule.Slice.PartMut.{put_mid}
 use Rattle.std.specs.List.{between}
-use Rattle.std.proofs.lemmas.List.{append-nil, append_assoc, map-append, map-set, get_or-map, length-map, take_all, take-map, drop_all, drop-drop, drop-map}
+use Rattle.std.proofs.lemmas.List.{append-nil, append_assoc, map-append, map-set, get_or-map, length-map, take_all, take_rest, take-map, drop_all, drop-drop, drop-map}
+use Rattle.std.proofs.lemmas.Bool.Decides.{Decides-like}
 use Rattle.std.proofs.lemmas.List.Edits.{map_over_more}
 use Rattle.packet.specs.declared.range.Range.{Range}
 use Rattle.packet.specs.declared.region.Region.{Region}
@@ -36,19 +37,20 @@ cut_all f range part rows i h v =
     let n : length (view part) ≤ i = omega (arith, length-map part plain) in
     v ∙ ap₂ (λ (a b : List tables.Row). map (cut f range) a ++ b) (take_all i (view part) n) (drop_all i (view part) n) ∙ append-nil (map (cut f range) (view part))
 
--- and are put back
-pub cut_put : (f : ℕ) (range : Range ℕ) (rows part : List Row) (start end : ℕ) → start ≤ end
-    → view part ≡ map (cut f range) (view (between start end rows))
-    → view (put_mid start (end - start) rows part) ≡ cut_between start end f range (view rows)
-cut_put f range rows part start end h v =
-    let after = drop (end - start) (drop start rows) in
+-- and are put back where they were lent
+pub cut_put : (f : ℕ) (range : Range ℕ) (rows lent part : List Row) (start end : ℕ) → start ≤ end → lent ≡ rows
+    → view part ≡ map (cut f range) (view (between start end lent))
+    → view (put_mid start (end - start) lent part) ≡ cut_between start end f range (view rows)
+cut_put f range rows lent part start end h e v =
+    let after = drop (end - start) (drop start lent) in
     let k : start + (end - start) ≡ end = omega arith in
-    map-append plain (take start rows) (part ++ after)
-    ∙ ap (λ (a : List tables.Row). view (take start rows) ++ a) (map-append plain part after)
-    ∙ sym (append_assoc (view (take start rows)) (view part) (view after))
+    map-append plain (take start lent) (part ++ after)
+    ∙ ap (λ (a : List tables.Row). view (take start lent) ++ a) (map-append plain part after)
+    ∙ sym (append_assoc (view (take start lent)) (view part) (view after))
     ∙ ap₂ (λ (a b : List tables.Row). a ++ b)
-    (ap₂ (λ (a b : List tables.Row). a ++ b) (sym (take-map plain start rows)) (v ∙ ap (map (cut f range)) (view_between rows start end)))
-    (ap view (drop-drop (end - start) start rows ∙ ap (λ n. drop n rows) k) ∙ sym (drop-map plain end rows))
+    (ap₂ (λ (a b : List tables.Row). a ++ b) (sym (take-map plain start lent)) (v ∙ ap (map (cut f range)) (view_between lent start end)))
+    (ap view (drop-drop (end - start) start lent ∙ ap (λ n. drop n lent) k) ∙ sym (drop-map plain end lent))
+    ∙ ap (λ (a : List Row). cut_between start end f range (view a)) e
 
 -- a region from its ranges
 region_of : List (Range ℕ) → Region
@@ -67,3 +69,12 @@ unview_view (r ∷ rows) = ap (λ (a : List Row). r ∷ a) (unview_view rows)
 -- rows that mean the same are the same
 pub view_tells : (a b : List Row) → view a ≡ view b → a ≡ b
 view_tells a b e = sym (unview_view a) ∙ ap unview e ∙ unview_view b
+
+-- two neighbouring parts that mean the same are parts of what is seen that are the same
+pub parts_tell : (rows lent rest : List Row) (start end : ℕ) (same : Bool) → lent ≡ rows → rest ≡ rows
+    → Decides same (view (between start end lent) ≡ view (between end (length rest) rest))
+    → Decides same (between start end (view rows) ≡ drop end (view rows))
+parts_tell rows lent rest start end same e i d =
+    let a = view_between lent start end ∙ ap (λ (x : List Row). between start end (view x)) e in
+    let b = ap view (take_rest rest end) ∙ sym (drop-map plain end rest) ∙ ap (λ (x : List Row). drop end (view x)) i in
+    Decides-like same (λ h. sym a ∙ h ∙ b) (λ h. a ∙ h ∙ sym b) d

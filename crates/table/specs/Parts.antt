@@ -1,10 +1,24 @@
 -- Parts of a table while it is built, field by field. Cited by the private functions of src/rows.rt. Assumes nothing.
-use Rattle.std.specs.Prelude.{ℕ, List, ◌++◌, map, take, drop, slice_index, slice_set}
+use Rattle.std.specs.Prelude.{◌≡◌, ℕ, ◌-◌, List, [], ◌∷◌, ◌++◌, length, map, take, drop, slice_index, slice_set}
 use Rattle.std.specs.List.{between}
+use Rattle.packet.specs.declared.field.Field.{Field}
+use Rattle.packet.specs.declared.field.Field.TheVariants.{Source, SourcePort, Destination, DestinationPort, Protocol}
 use Rattle.packet.specs.declared.range.Range.{Range}
 use Rattle.packet.specs.Packets.{tops}
 use Rattle.packet.specs.Regions.{clamped}
 use Rattle.theory.specs.Tables.{Row, table}
+
+-- all fields, in their order
+abbrev pub all_fields : List Field
+all_fields = Source ∷ SourcePort ∷ Destination ∷ DestinationPort ∷ Protocol ∷ []
+
+-- how many fields come before the last ones
+abbrev pub before : List Field → ℕ
+before fields = length all_fields - length fields
+
+-- these are the last fields
+abbrev pub AreLast : List Field → Type 0
+AreLast fields = fields ≡ drop (before fields) all_fields
 
 -- the table of what m decides of the fields from f on, once the fields before have the values of p
 abbrev pub table_from : (List ℕ → ℕ) → ℕ → List ℕ → List Row

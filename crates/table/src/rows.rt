@@ -1,11 +1,10 @@
 // The rows of a source.
-ghost use Rattle.std.specs.Prelude.{◌≡◌, ◌+◌, ◌≤◌, ◌++◌, length, drop, IfOk, IfErr, vec_len, Decides, OnOk};
-ghost use Rattle.std.specs.List.{between};
+ghost use Rattle.std.specs.Prelude.{◌≡◌, ◌+◌, ◌≤◌, ◌++◌, map, length, drop, IfOk, IfErr, vec_len, Decides, OnOk};
 ghost use Rattle.packet.specs.Packets.{values, tops, place};
 ghost use Rattle.theory.specs.Tables.{table, Canonical};
 ghost use Rattle.table.specs.Rows.{view, most_rows};
 ghost use Rattle.table.specs.Refusals.{Refuses};
-ghost use Rattle.table.specs.Parts.{table_from, uncut, cut_between};
+ghost use Rattle.table.specs.Parts.{before, AreLast, table_from, uncut, cut};
 
 use crate::refusal::PackRefusal;
 use crate::row::Row;
@@ -23,30 +22,24 @@ pub fn rows_of<K: Kind, S: Source<K>>(heap: Global, source: &S) -> Result<Vec<Ro
     ensures few { IfOk result (λ rows. vec_len rows ≤ most_rows) }
     ensures refused { IfErr result (λ e. Refuses e (length (table tops (S.Source.meaning source.now)))) }
 {
-    let earliest = Packet {
-        source: 0,
-        source_port: 0,
-        destination: 0,
-        destination_port: 0,
-        protocol: 0,
-    };
     let mut rows = Vec::new(heap);
-    append_table(&mut rows, source, 0, earliest)?;
+    append_table(&mut rows, source, &Field::ALL, Packet::default())?;
     Ok(rows)
 }
 
-// Puts behind `rows` the table of what is left of the source once the fields before `field` have the values of `at`.
+// Puts behind `rows` the table of what is left of the source for the last fields once those before have the values of `at`.
 fn append_table<K: Kind, S: Source<K>>(
     rows: &mut Vec<Row>,
     source: &S,
-    field: usize,
+    fields: &[Field],
     at: Packet,
 ) -> Result<(), PackRefusal>
-    ensures rows { OnOk result (view rows.new.items ≡ view rows.old.items ++ uncut field (table_from (S.Source.meaning source.now) field (values at))) }
+    requires { AreLast fields.now }
+    ensures rows { OnOk result (view rows.new.items ≡ view rows.old.items ++ uncut (before fields.now) (table_from (S.Source.meaning source.now) (before fields.now) (values at))) }
     ensures few { OnOk result ((vec_len rows.old ≤ vec_len rows.new) × (vec_len rows.new ≤ vec_len rows.old + most_rows)) }
-    ensures refused { IfErr result (λ e. Refuses e (length (table_from (S.Source.meaning source.now) field (values at)))) }
+    ensures refused { IfErr result (λ e. Refuses e (length (table_from (S.Source.meaning source.now) (before fields.now) (values at)))) }
 {
-    let Some(here) = Field::at(field) else {
+    let [here, later @ ..] = fields else {
         let decision = source.decide(&at);
         rows.push(Row {
             region: Region::EVERYTHING,
@@ -54,49 +47,47 @@ fn append_table<K: Kind, S: Source<K>>(
         })?;
         return Ok(());
     };
+    let here = *here;
     let top = here.top();
     let base = rows.len();
     let first = at.with(here, 0);
-    append_table(rows, source, field + 1, first)?;
+    append_table(rows, source, later, first)?;
     let mut start = base;
     let mut low = 0;
     let mut high = source.edge(here, &first);
+    // The step is the source's edge and not one value, so that no range is gone through.
     while high < top {
         let end = rows.len();
         let next = at.with(here, high + 1);
-        append_table(rows, source, field + 1, next)?;
-        if is_repeated(rows, start, end) {
+        append_table(rows, source, later, next)?;
+        if are_same(&rows[start..end], &rows[end..]) {
             rows.truncate(end);
         } else {
             if rows.len() - base > MOST_ROWS {
                 return Err(PackRefusal::TooLarge);
             }
-            narrow(rows, start, end, here, Range { low, high });
+            narrow(&mut rows[start..end], here, Range { low, high });
             start = end;
             low = high + 1;
         }
         high = source.edge(here, &next);
     }
-    let end = rows.len();
-    narrow(rows, start, end, here, Range { low, high });
+    narrow(&mut rows[start..], here, Range { low, high });
     Ok(())
 }
 
-// Are the rows from `start` to `end` the same as those from `end` on?
-fn is_repeated(rows: &[Row], start: usize, end: usize) -> bool
-    requires { (start ≤ end) × (end ≤ length rows.now) }
-    ensures { Decides result (between start end (view rows.now) ≡ drop end (view rows.now)) }
+// Are the rows the same?
+fn are_same(first: &[Row], second: &[Row]) -> bool
+    ensures { Decides result (view first.now ≡ view second.now) }
 {
-    &rows[start..end] == &rows[end..]
+    first == second
 }
 
-// Gives the rows from `start` to `end` this range on the field.
-fn narrow(rows: &mut Vec<Row>, start: usize, end: usize, field: Field, range: Range<u32>)
-    requires { (start ≤ end) × (end ≤ vec_len rows.old) }
-    ensures rows { view rows.new.items ≡ cut_between start end (place field) range (view rows.old.items) }
-    ensures len { vec_len rows.new ≡ vec_len rows.old }
+// Gives the rows this range on the field.
+fn narrow(rows: &mut [Row], field: Field, range: Range<u32>)
+    ensures { view rows.new ≡ map (cut (place field) range) (view rows.old) }
 {
-    for row in rows[start..end].iter_mut() {
+    for row in rows {
         row.region = row.region.with(field, range);
     }
 }

@@ -1,9 +1,12 @@
 -- In nested rows one row holds a packet, and the packet comes before exactly the later rows. Assumes nothing.
 use Rattle.std.proofs.Common.{◌≡◌, ℕ, zero, suc, ◌<◌, ◌≤◌, true, false, ltb, List, [], ◌∷◌, ◌++◌, length, get_or, take, drop, sym, refl, ap, ◌∙◌, subst, inl, inr, append_assoc, append-nil, arith, length-append}
 use mathlib.Core.List.{map-append}
+use Rattle.std.specs.List.{AllByRecursion}
+use Rattle.std.proofs.ByRecursion.{All-append, All-weaker, All-map}
 use Rattle.std.proofs.lemmas.List.{get_or_at}
+use Rattle.std.proofs.lemmas.List.Elements.{recursion_from_All}
 use Rattle.std.proofs.lemmas.Bool.Decides.{nat_tests}
-use Rattle.std.proofs.lemmas.Bool.{cases_lt, and_parts, and_left, and_right, leb-true, le-leb, lt-leb, le-ltb, lt-ltb}
+use Rattle.std.proofs.lemmas.Bool.{cases_lt, le-leb, le-ltb, lt-ltb}
 use Rattle.packet.specs.declared.range.Range.{Range}
 use Rattle.packet.specs.Packets.{Within}
 use Rattle.packet.specs.Regions.{holds, range_at}
@@ -14,24 +17,19 @@ use Rattle.theory.proofs.Look.{lookup-append, spread_in}
 
 -- P holds of each row's ranges
 abbrev Every : (List (Range ℕ) → Type 0) → List Row → Type 0
-Every P [] = Unit {0}
-Every P (r ∷ rows) = P r.ranges × Every P rows
+Every P rows = AllByRecursion (λ (r : Row). P r.ranges) rows
 
 every_append : (P : List (Range ℕ) → Type 0) (xs ys : List Row) → Every P xs → Every P ys → Every P (xs ++ ys)
-every_append P [] ys a b = b
-every_append P (x ∷ xs) ys a b = (a.0, every_append P xs ys a.1 b)
+every_append P = All-append (λ (r : Row). P r.ranges)
 
 every_map : (P Q : List (Range ℕ) → Type 0) → ((rs : List (Range ℕ)) → P rs → Q rs) → (rows : List Row) → Every P rows → Every Q rows
-every_map P Q f [] e = tt
-every_map P Q f (r ∷ rows) e = (f r.ranges e.0, every_map P Q f rows e.1)
+every_map P Q f = All-weaker (λ (r : Row). P r.ranges) (λ (r : Row). Q r.ranges) (λ r. f r.ranges)
 
 every_spread : (P Q : List (Range ℕ) → Type 0) (low high : ℕ) → ((rs : List (Range ℕ)) → P rs → Q (record { low = low; high = high } ∷ rs)) → (rows : List Row) → Every P rows → Every Q (spread low high rows)
-every_spread P Q low high f [] e = tt
-every_spread P Q low high f (r ∷ rows) e = (f r.ranges e.0, every_spread P Q low high f rows e.1)
+every_spread P Q low high f rows e = All-map (λ (r : Row). Q r.ranges) _ rows (All-weaker (λ (r : Row). P r.ranges) _ (λ r. f r.ranges) rows e)
 
 all : (rows : List Row) → Every (λ _. Unit {0}) rows
-all [] = tt
-all (r ∷ rows) = (tt, all rows)
+all rows = recursion_from_All (λ _. Unit {0}) rows (λ _ _ _. tt)
 
 -- the packet lies past the ranges
 abbrev Past : List ℕ → List (Range ℕ) → Type 0
@@ -53,11 +51,11 @@ Right n (r ∷ rs) = n < r.low
 
 left_past : (n v : ℕ) (q : List ℕ) → n ≤ v → (rs : List (Range ℕ)) → Left n rs → Past (v ∷ q) rs
 left_past n v q h [] l = absurd l
-left_past n v q h (r ∷ rs) l = (rw (le-ltb v r.low (omega arith), lt-leb v r.high (omega arith)), and_left _ _ (and_right _ _ (lt-leb v r.high (omega arith))))
+left_past n v q h (r ∷ rs) l = (grind (arith, nat_tests), grind (arith, nat_tests))
 
 right_ahead : (n v : ℕ) (q : List ℕ) → v ≤ n → (rs : List (Range ℕ)) → Right n rs → Ahead (v ∷ q) rs
 right_ahead n v q h [] l = absurd l
-right_ahead n v q h (r ∷ rs) l = (rw (lt-ltb v r.low (omega arith)), and_left _ _ (and_left _ _ (lt-leb r.low v (omega arith))))
+right_ahead n v q h (r ∷ rs) l = (grind (arith, nat_tests), grind (arith, nat_tests))
 
 upto_left : (n : ℕ) (gs : List Group) → Upto n gs → (k : ℕ) → n ≤ k → Every (Left k) (flat gs)
 upto_left n [] u k h = tt
@@ -159,10 +157,7 @@ split (top ∷ rest) rows n (v ∷ q) w =
 holds_before : (rs : List (Range ℕ)) (p : List ℕ) → holds rs p ≡ true → before rs p ≡ false
 holds_before [] p e = refl
 holds_before (r ∷ rs) [] e = refl
-holds_before (r ∷ rs) (v ∷ p) e =
-    let h = and_parts _ _ e in
-    let k = and_parts _ _ h.0 in
-    rw (le-ltb v r.low (leb-true _ _ k.0), k.1) (holds_before rs p h.1)
+holds_before (r ∷ rs) (v ∷ p) e = grind (arith, nat_tests, holds_before rs p)
 
 ltb_suc : (a b : ℕ) → ltb a b ≡ ltb (suc a) (suc b)
 ltb_suc a b = grind (arith, nat_tests)

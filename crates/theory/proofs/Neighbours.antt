@@ -1,8 +1,8 @@
 -- Nested rows are reduced exactly if no row starts a range that is alike its left neighbour. Assumes nothing.
 use Rattle.std.proofs.Common.{◌≡◌, ℕ, zero, suc, ◌<◌, Bool, true, false, not, ◌&&◌, List, [], ◌∷◌, ◌++◌, length, sym, refl, ap, ◌∙◌, ap₂, inl, inr, arith}
-use mathlib.Core.Bool.{and_assoc}
 use mathlib.Core.Option.{Option, none, some}
-use Rattle.std.proofs.lemmas.Bool.{both_ways, and_parts, and_from, not-true, not_from_false, cases_Bool, eq-eqb, ne_eqb}
+use Rattle.std.proofs.lemmas.Bool.{both_ways, and_parts, not-true, cases_Bool, eq-eqb, ne_eqb}
+use Rattle.std.proofs.lemmas.Bool.Decides.{nat_tests}
 use Rattle.packet.specs.declared.range.Range.{Range}
 use Rattle.packet.specs.Packets.{Within}
 use Rattle.theory.specs.Tables.{Row, Group, lookup, spread, flat, Upto, Each, Nested, Alike, Apart, Reduced, same_rows, table}
@@ -43,14 +43,13 @@ calm P o (r ∷ rows) = may P o r.ranges && calm P (some r.ranges) rows
 
 calm-append : (P : List (Range ℕ) → List (Range ℕ) → Bool) (o : Option (List (Range ℕ))) (xs ys : List Row) → calm P o (xs ++ ys) ≡ (calm P o xs && calm P (last o xs) ys)
 calm-append P o [] ys = refl
-calm-append P o (x ∷ xs) ys = ap (λ b. may P o x.ranges && b) (calm-append P (some x.ranges) xs ys)
-    ∙ sym (and_assoc (may P o x.ranges) (calm P (some x.ranges) xs) (calm P (last (some x.ranges) xs) ys))
+calm-append P o (x ∷ xs) ys = grind (arith, nat_tests, calm-append P (some x.ranges) xs ys)
 
 -- the rows under one range
 module _ (P P' : List (Range ℕ) → List (Range ℕ) → Bool) (r : Range ℕ) (same : (a b : List (Range ℕ)) → P (r ∷ a) (r ∷ b) ≡ P' a b) where
   calm-spread : (a : List (Range ℕ)) (rows : List Row) → calm P (some (r ∷ a)) (spread r.low r.high rows) ≡ calm P' (some a) rows
   calm-spread a [] = refl
-  calm-spread a (x ∷ rows) = ap₂ (λ b c. not b && c) (same a x.ranges) (calm-spread x.ranges rows)
+  calm-spread a (x ∷ rows) = grind (arith, nat_tests, same a x.ranges, calm-spread x.ranges rows)
 
   calm_enter : (o : Option (List (Range ℕ))) (rows : List Row) → 0 < length rows → calm P o (spread r.low r.high rows) ≡ (may P o (r ∷ ranges_at rows 0) && calm P' none rows)
   calm_enter o [] h = absurd (omega arith)
@@ -136,7 +135,7 @@ from_calm rest (g ∷ h ∷ gs) e =
 to_calm : (rest : List ℕ) (gs : List Group) → Calm rest gs → calm_groups rest gs ≡ true
 to_calm rest [] c = refl
 to_calm rest (g ∷ []) c = c.1.0
-to_calm rest (g ∷ h ∷ gs) c = and_from _ _ (to_calm rest (h ∷ gs) (c.0.1, c.1.1)) (and_from _ _ (not_from_false _ (alike_false rest h.rows g.rows c.0.0)) c.1.0)
+to_calm rest (g ∷ h ∷ gs) c = grind (arith, nat_tests, to_calm rest (h ∷ gs) (c.0.1, c.1.1), alike_false rest h.rows g.rows c.0.0, c.1.0)
 
 calm_reduced : (tops : List ℕ) (rows : List Row) → Nested tops rows → calm (alike_neighbours tops rows) none rows ≡ true → Reduced tops rows
 calm_reduced [] rows n c = n
@@ -154,12 +153,12 @@ reduced_calm (top ∷ rest) rows r =
 calm-place : (P : List (Range ℕ) → List (Range ℕ) → Bool) (o : Option (List (Range ℕ))) (rows : List Row) → calm P o rows ≡ true → (i : ℕ) → suc i < length rows → P (ranges_at rows i) (ranges_at rows (suc i)) ≡ false
 calm-place P o [] c i h = absurd (omega arith)
 calm-place P o (r ∷ []) c i h = absurd (omega arith)
-calm-place P o (r ∷ s ∷ rows) c zero h = not-true _ (and_parts _ _ (and_parts _ _ c).1).0
+calm-place P o (r ∷ s ∷ rows) c zero h = grind (arith, nat_tests)
 calm-place P o (r ∷ s ∷ rows) c (suc i) h = calm-place P (some r.ranges) (s ∷ rows) (and_parts _ _ c).1 i (omega arith)
 
 place_calm : (P : List (Range ℕ) → List (Range ℕ) → Bool) (r : Row) (rows : List Row) → ((i : ℕ) → i < length rows → P (ranges_at (r ∷ rows) i) (ranges_at (r ∷ rows) (suc i)) ≡ false) → calm P (some r.ranges) rows ≡ true
 place_calm P r [] h = refl
-place_calm P r (s ∷ rows) h = and_from _ _ (not_from_false _ (h 0 (omega arith))) (place_calm P s rows (λ i l. h (suc i) (omega arith)))
+place_calm P r (s ∷ rows) h = grind (arith, nat_tests, h 0 (omega arith), place_calm P s rows (λ i l. h (suc i) (omega arith)))
 
 tested_calm : (P : List (Range ℕ) → List (Range ℕ) → Bool) (rows : List Row) → ((i : ℕ) → suc i < length rows → P (ranges_at rows i) (ranges_at rows (suc i)) ≡ false) → calm P none rows ≡ true
 tested_calm P [] h = refl

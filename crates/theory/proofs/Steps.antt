@@ -1,10 +1,11 @@
 -- The stepwise test passes exactly the nested rows. Assumes nothing.
-use Rattle.std.proofs.Common.{◌≡◌, ℕ, zero, suc, ◌<◌, ◌≤◌, Bool, true, false, cond, ◌&&◌, eqb, ◌⊎◌, List, [], ◌∷◌, ◌++◌, length, get_or, take, sym, refl, ap, ◌∙◌, subst, ap₂, inl, inr, append_assoc, append-nil, arith, take-suc}
+use Rattle.std.proofs.Common.{◌≡◌, ℕ, zero, suc, ◌<◌, ◌≤◌, true, ◌&&◌, ◌⊎◌, List, [], ◌∷◌, ◌++◌, length, get_or, take, sym, refl, ap, ◌∙◌, subst, ap₂, inl, inr, append_assoc, append-nil, arith, take-suc}
 use mathlib.Core.List.{map-append}
-use mathlib.Core.Bool.{and_assoc, and-true}
+use mathlib.Core.Bool.{and-true}
 use mathlib.Core.Option.{Option, none, some}
 use Rattle.std.proofs.lemmas.List.{take_all}
-use Rattle.std.proofs.lemmas.Bool.{false≢true, cases_lt, and_parts, and_from, eqb-true, eq-eqb, ne_eqb, leb-true, le-leb}
+use Rattle.std.proofs.lemmas.Bool.{false≢true, cases_lt, and_parts, and_from, eqb-true, leb-true}
+use Rattle.std.proofs.lemmas.Bool.Decides.{nat_tests}
 use Rattle.packet.specs.declared.range.Range.{Range}
 use Rattle.theory.specs.Tables.{Row, Group, spread, flat, Upto, Each, Nested, table}
 use Rattle.theory.specs.Steps.{fits, at_start, at_end, follows, may_come, walk, last, finished, begins, passes}
@@ -14,8 +15,7 @@ use Rattle.theory.proofs.Theorems.{table_nested}
 
 walk-append : (tops : List ℕ) (o : Option (List (Range ℕ))) (xs ys : List Row) → walk tops o (xs ++ ys) ≡ (walk tops o xs && walk tops (last o xs) ys)
 walk-append tops o [] ys = refl
-walk-append tops o (x ∷ xs) ys = ap (λ b. fits tops x.ranges && may_come tops o x.ranges && b) (walk-append tops (some x.ranges) xs ys)
-    ∙ sym (and_assoc (fits tops x.ranges && may_come tops o x.ranges) (walk tops (some x.ranges) xs) (walk tops (last (some x.ranges) xs) ys))
+walk-append tops o (x ∷ xs) ys = grind (arith, nat_tests, walk-append tops (some x.ranges) xs ys)
 
 -- the last row of two lists
 pub last_append : (o : Option (List (Range ℕ))) (xs ys : List Row) → last o (xs ++ ys) ≡ last (last o xs) ys
@@ -26,7 +26,7 @@ last_append o (x ∷ xs) ys = last_append (some x.ranges) xs ys
 module _ (top : ℕ) (rest : List ℕ) (low high : ℕ) (l : low ≤ high) (h : high ≤ top) where
   walk-spread : (a : List (Range ℕ)) (rows : List Row) → walk (top ∷ rest) (some (record { low = low; high = high } ∷ a)) (spread low high rows) ≡ walk rest (some a) rows
   walk-spread a [] = refl
-  walk-spread a (r ∷ rows) = rw (le-leb low high l, le-leb high top h, eq-eqb low low refl, eq-eqb high high refl, walk-spread r.ranges rows)
+  walk-spread a (r ∷ rows) = grind (arith, nat_tests, walk-spread r.ranges rows)
 
 last_under : (low high : ℕ) (a b : List (Range ℕ)) (rows : List Row) → last (some b) rows ≡ some a → last (some (record { low = low; high = high } ∷ b)) (spread low high rows) ≡ some (record { low = low; high = high } ∷ a)
 last_under low high a b [] e = cc
@@ -44,17 +44,13 @@ Reached rest n (some []) = ⊥
 Reached rest n (some (x ∷ a)) = (n ≡ suc x.high) × (x.low ≤ x.high) × (at_end rest a ≡ true)
 
 may_enter : (top : ℕ) (rest : List ℕ) (o : Option (List (Range ℕ))) (low high : ℕ) (b : List (Range ℕ)) → Reached rest low o → at_start b ≡ true → may_come (top ∷ rest) o (record { low = low; high = high } ∷ b) ≡ true
-may_enter top rest none low high b r s = and_from _ _ (eq-eqb low 0 r) s
+may_enter top rest none low high b r s = grind (arith, nat_tests)
 may_enter top rest (some []) low high b r s = absurd r
-may_enter top rest (some (x ∷ a)) low high b r s = rw (ne_eqb x.low low (omega arith), eq-eqb low (suc x.high) r.0, r.2) s
+may_enter top rest (some (x ∷ a)) low high b r s = grind (arith, nat_tests)
 
 walk_enter : (top : ℕ) (rest : List ℕ) (o : Option (List (Range ℕ))) (low high : ℕ) (rows : List Row) → Reached rest low o → low ≤ high → high ≤ top → walk rest none rows ≡ true → walk (top ∷ rest) o (spread low high rows) ≡ true
 walk_enter top rest o low high [] r l h w = refl
-walk_enter top rest o low high (x ∷ rows) r l h w =
-    let p = and_parts _ _ w in
-    let q = and_parts _ _ p.0 in
-    and_from _ _ (and_from _ _ (and_from _ _ (and_from _ _ (le-leb low high l) (le-leb high top h)) q.0) (may_enter top rest o low high x.ranges r q.1))
-    (walk-spread top rest low high l h x.ranges rows ∙ p.1)
+walk_enter top rest o low high (x ∷ rows) r l h w = grind (arith, nat_tests, may_enter top rest o low high x.ranges r, walk-spread top rest low high l h x.ranges rows)
 
 -- the rows step from the first, and end at the end
 abbrev Full : List ℕ → List Row → Type 0
@@ -73,7 +69,7 @@ full_groups top rest n (g ∷ gs) u h e =
 reached_end : (top : ℕ) (rest : List ℕ) (o : Option (List (Range ℕ))) → Reached rest (suc top) o → (a : List (Range ℕ)) × (o ≡ some a) × (at_end (top ∷ rest) a ≡ true)
 reached_end top rest none r = absurd (omega arith)
 reached_end top rest (some []) r = absurd r
-reached_end top rest (some (x ∷ a)) r = (x ∷ a, refl, and_from _ _ (eq-eqb x.high top (omega arith)) r.2)
+reached_end top rest (some (x ∷ a)) r = (x ∷ a, refl, grind (arith, nat_tests))
 
 full : (tops : List ℕ) (rows : List Row) → Nested tops rows → Full tops rows
 full [] rows n = rw n.1 (refl, ([], refl, refl))
@@ -108,12 +104,7 @@ State top rest (some a) rows = Read top rest a rows
 -- either the ranges on the first field are the same, or the second begins one past the end of the first
 follows_cases : (top : ℕ) (rest : List ℕ) (x y : Range ℕ) (a b : List (Range ℕ)) → follows (top ∷ rest) (x ∷ a) (y ∷ b) ≡ true
     → ((x.low ≡ y.low) × (x.high ≡ y.high) × (follows rest a b ≡ true)) ⊎ ((y.low ≡ suc x.high) × (at_end rest a ≡ true) × (at_start b ≡ true))
-follows_cases top rest x y a b f = go (eqb x.low y.low && eqb x.high y.high) refl f
-  where
-    go : (t : Bool) → (eqb x.low y.low && eqb x.high y.high) ≡ t → cond t (follows rest a b) (eqb y.low (suc x.high) && at_end rest a && at_start b) ≡ true
-        → ((x.low ≡ y.low) × (x.high ≡ y.high) × (follows rest a b ≡ true)) ⊎ ((y.low ≡ suc x.high) × (at_end rest a ≡ true) × (at_start b ≡ true))
-    go true e f = let p = and_parts _ _ e in inl (eqb-true _ _ p.0, eqb-true _ _ p.1, f)
-    go false e f = let p = and_parts _ _ f in let q = and_parts _ _ p.0 in inr (eqb-true _ _ q.0, q.1, p.1)
+follows_cases top rest x y a b f = grind (arith, nat_tests)
 
 module _ (top : ℕ) (rest : List ℕ) (ih : (rows : List Row) → passes rest rows ≡ true → Nested rest rows) where
   -- a group that is at its end is nested
@@ -218,11 +209,7 @@ at_most_one [] w = inl refl
 at_most_one (r ∷ []) w =
     let e = no_ranges r.ranges (and_parts _ _ (and_parts _ _ w).0).0 in
     inr (r.decision, λ i. record { ranges = e i; decision = r.decision } ∷ [])
-at_most_one (r ∷ s ∷ rows) w =
-    let p = and_parts _ _ w in
-    let q = and_parts _ _ p.1 in
-    let t = and_parts (fits [] s.ranges) false q.0 in
-    absurd (false≢true t.1)
+at_most_one (r ∷ s ∷ rows) w = absurd (grind (arith, nat_tests))
 
 -- rows that pass are nested
 pub passes_nested : (tops : List ℕ) (rows : List Row) → passes tops rows ≡ true → Nested tops rows
@@ -301,7 +288,7 @@ passes_end tops rows i e b =
 
 walk-fits : (tops : List ℕ) (o : Option (List (Range ℕ))) (rows : List Row) (i : ℕ) → walk tops o rows ≡ true → i < length rows → fits tops (ranges_at rows i) ≡ true
 walk-fits tops o [] i w h = absurd (omega arith)
-walk-fits tops o (r ∷ rows) zero w h = (and_parts _ _ (and_parts _ _ w).0).0
+walk-fits tops o (r ∷ rows) zero w h = grind (arith, nat_tests)
 walk-fits tops o (r ∷ rows) (suc i) w h = walk-fits tops (some r.ranges) rows i (and_parts _ _ w).1 (omega arith)
 
 -- each row of nested rows has its ranges in order and within the fields

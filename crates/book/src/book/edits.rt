@@ -33,6 +33,7 @@ impl<K: Kind> Book<K> {
     }
 
     // Puts the rule behind the first `position` rules.
+    #[tactic(auto, using(crate::proofs::Edited::forward_inserted))]
     pub fn add(&mut self, position: usize, rule: Rule) -> Result<(), Refusal>
         ensures answer { result ≡ (add K.Kind.COUNT K.Kind.SILENT (rules_of self.old) position rule).answer }
         ensures rules { rules_of self.new ≡ (add K.Kind.COUNT K.Kind.SILENT (rules_of self.old) position rule).rules }
@@ -49,7 +50,7 @@ impl<K: Kind> Book<K> {
         if !speaks::<K>(rule.decision) {
             return Err(Refusal::NotADecision);
         }
-        // There is room: memory for all rules was had at the opening.
+        // There is room, since memory for all rules was had at the opening; a Vec has no insert that asks for none.
         let _ = self.rules.insert(position, rule);
         Ok(())
     }
@@ -66,6 +67,7 @@ impl<K: Kind> Book<K> {
     }
 
     // Takes the rule at `from` out and puts it behind the first `to` of those left.
+    #[tactic(auto, using(crate::proofs::Edited::forward_inserted, crate::proofs::Edited::forward_removed, crate::proofs::Edited::forward_taken))]
     pub fn shift(&mut self, from: usize, to: usize) -> Result<(), Refusal>
         ensures answer { result ≡ (shift (rules_of self.old) from to).answer }
         ensures rules { rules_of self.new ≡ (shift (rules_of self.old) from to).rules }
@@ -84,13 +86,12 @@ impl<K: Kind> Book<K> {
         ensures answer { result ≡ (recast K.Kind.COUNT K.Kind.SILENT (rules_of self.old) position decision).answer }
         ensures rules { rules_of self.new ≡ (recast K.Kind.COUNT K.Kind.SILENT (rules_of self.old) position decision).rules }
     {
-        if position >= self.rules.len() {
+        let Some(rule) = self.rules.get_mut(position) else {
             return Err(Refusal::NoSuchPosition);
-        }
+        };
         if !speaks::<K>(decision) {
             return Err(Refusal::NotADecision);
         }
-        let rule = &mut self.rules[position];
         rule.decision = decision;
         Ok(())
     }
@@ -106,6 +107,6 @@ impl<K: Kind> Book<K> {
     pub fn rules(&self) -> &[Rule]
         ensures { result.now ≡ rules_of self.now }
     {
-        self.rules.as_slice()
+        &self.rules
     }
 }

@@ -1,10 +1,11 @@
 // A book as a source.
-ghost use Rattle.std.specs.Prelude.{◌≡◌, suc, ◌<◌, ◌≤◌, length, take, drop};
-ghost use Rattle.packet.specs.Packets.{values, tops};
-ghost use Rattle.packet.specs.Regions.{holds};
+ghost use Rattle.std.specs.Prelude.{◌≡◌, take, drop, find, option_map};
+ghost use Rattle.std.specs.List.{list_all, zip};
+ghost use Rattle.packet.specs.Packets.{values, place};
+ghost use Rattle.packet.specs.Regions.{ranges, inside, holds};
 ghost use Rattle.book.specs.Books.{rules_of};
 ghost use Rattle.book.specs.Deciding.{first, meant};
-ghost use Rattle.book.specs.Reach.{whole, all_whole, Stops};
+ghost use Rattle.book.specs.Reach.{whole, Stops};
 ghost use Rattle.book.specs.Reaches.{stops_edge};
 ghost use Rattle.decision.specs.Tested.{known_of_kind};
 
@@ -24,46 +25,40 @@ impl<K: Kind> Source<K> for Book<K> {
     ghost sound = { λ s f p r few w h. stops_edge K.Kind.COUNT K.Kind.SILENT (rules_of s) f p r few w h };
 
     fn decide(&self, packet: &Packet) -> u8 {
-        let decision = first_decision(self.rules.as_slice(), *packet, K::SILENT);
-        if decision < K::COUNT {
-            decision
-        } else {
-            K::SILENT
-        }
+        K::or_silent(first_decision(&self.rules, *packet).unwrap_or(K::SILENT))
     }
 
     fn edge(&self, field: Field, packet: &Packet) -> u32 {
-        nearest_end(self.rules.as_slice(), field.index(), &packet.to_array())
+        nearest_end(&self.rules, field, *packet)
     }
 }
 
-// The decision of the first rule that holds the packet, or else the silent one.
-fn first_decision(rules: &[Rule], packet: Packet, silent: u8) -> u8
-    ensures { result ≡ first silent rules.now (values packet) }
+// The decision of the first rule that holds the packet.
+fn first_decision(rules: &[Rule], packet: Packet) -> Option<u8>
+    ensures { result ≡ option_map (λ rule. rule.decision) (find (λ rule. holds (ranges rule.region) (values packet)) rules.now) }
 {
-    for rule in rules {
-        if rule.region.contains(packet) {
-            return rule.decision;
-        }
-    }
-    silent
+    rules
+        .iter()
+        .find(|rule| rule.region.contains(packet))
+        .map(|rule| rule.decision)
 }
 
-// The nearest end of the rules looked at, on the field at the index, from the packet's value up.
-fn nearest_end(rules: &[Rule], index: usize, packet: &[u32]) -> u32
-    requires { (index < length tops) × (length packet.now ≡ length tops) }
-    ensures { Stops rules.now index packet.now result }
+// The nearest end, on the field, of the rules looked at, from the packet's value up.
+fn nearest_end(rules: &[Rule], field: Field, packet: Packet) -> u32
+    ensures { Stops rules.now (place field) (values packet) result }
 {
-    let largest = largest_values();
-    let value = packet[index];
-    let top = largest[index];
+    let values = packet.to_array();
+    let largest = Packet::LARGEST.to_array();
+    let place = field.index();
+    let value = packet.get(field);
+    let top = field.top();
     let mut end = top;
     for rule in rules {
         let ranges = rule.region.to_array();
-        if hold_before(&ranges, packet, index) {
-            let range = ranges[index];
+        if hold_before(&ranges, &values, place) {
+            let range = rule.region.range(field);
             end = end.min(range.run_end(value, top));
-            if range.contains(value) && are_whole_behind(&ranges, &largest, index) {
+            if range.contains(value) && are_whole_from(&ranges, &largest, place + 1) {
                 return end;
             }
         }
@@ -71,43 +66,26 @@ fn nearest_end(rules: &[Rule], index: usize, packet: &[u32]) -> u32
     end
 }
 
-// The largest value of each field.
-fn largest_values() -> [u32; Field::COUNT]
-    ensures { result ≡ tops }
+// Do the ranges before the place hold their values?
+fn hold_before(ranges: &[Range<u32>], values: &[u32], place: usize) -> bool
+    ensures { result ≡ list_all (λ pair. inside pair.0 pair.1) (take place (zip ranges.now values.now)) }
 {
-    [
-        Field::Source.top(),
-        Field::SourcePort.top(),
-        Field::Destination.top(),
-        Field::DestinationPort.top(),
-        Field::Protocol.top(),
-    ]
+    ranges
+        .iter()
+        .zip(values)
+        .take(place)
+        .all(|(range, value)| range.contains(*value))
 }
 
-// Do the ranges before the index hold their values?
-fn hold_before(ranges: &[Range<u32>], packet: &[u32], index: usize) -> bool
-    requires { (index ≤ length ranges.now) × (index ≤ length packet.now) }
-    ensures { result ≡ holds (take index ranges.now) (take index packet.now) }
+// Do the ranges from the place on hold every value of their fields?
+fn are_whole_from(ranges: &[Range<u32>], largest: &[u32], place: usize) -> bool
+    ensures { result ≡ list_all (λ pair. whole pair.1 pair.0) (drop place (zip ranges.now largest.now)) }
 {
-    for i in 0..index {
-        if !ranges[i].contains(packet[i]) {
-            return false;
-        }
-    }
-    true
-}
-
-// Do the ranges behind the index hold every value of their fields?
-fn are_whole_behind(ranges: &[Range<u32>], largest: &[u32], index: usize) -> bool
-    requires { (index < length ranges.now) × (length ranges.now ≡ length largest.now) }
-    ensures { result ≡ all_whole (drop (suc index) largest.now) (drop (suc index) ranges.now) }
-{
-    for i in index + 1..ranges.len() {
-        if !is_whole(ranges[i], largest[i]) {
-            return false;
-        }
-    }
-    true
+    ranges
+        .iter()
+        .zip(largest)
+        .skip(place)
+        .all(|(range, largest)| is_whole(*range, *largest))
 }
 
 // Does the range hold every value up to the largest?

@@ -3,16 +3,16 @@ use Rattle.findings.specs.Hidings.{with_later, from_rule, findings_of, FaithfulW
 use Rattle.findings.proofs.Listed.{Leads}
 use Rattle.findings.proofs.listing.list.Given as goal
 
-abbrev pub invariant-loop-second : goal.invariant-loop-second
-invariant-loop-second l =
+abbrev pub invariant-loop-ahead : goal.invariant-loop-ahead
+invariant-loop-ahead l =
     Leads
     l.initial.entries
     l.initial.count
-    (with_later l.first l.rule l.initial.second (drop l.initial.second l.rules) ++ from_rule (l.first + 1) (drop (l.first + 1) l.rules))
+    (with_later l.first l.rule (l.first + 1) l.later ++ from_rule (l.first + 1) l.later)
     l.entries
     l.count
-    (with_later l.first l.rule l.second (drop l.second l.rules) ++ from_rule (l.first + 1) (drop (l.first + 1) l.rules))
-    × (FaithfulWith l.rule (drop l.second l.rules) → FaithfulWith l.rule (drop l.initial.second l.rules))
+    (with_later l.first l.rule (l.first + 1 + l.ahead) (drop l.ahead l.later) ++ from_rule (l.first + 1) l.later)
+    × (FaithfulWith l.rule (drop l.ahead l.later) → FaithfulWith l.rule l.later)
 
 abbrev pub invariant-loop-first : goal.invariant-loop-first
 invariant-loop-first l =

@@ -1,8 +1,11 @@
-use Rattle.std.proofs.Common.{◌≡◌, ◌≤◌, min, drop}
+use Rattle.std.proofs.Common.{◌≡◌, ◌≤◌, min, get_or, drop}
+use Rattle.packet.specs.Packets.{values, tops, place}
 use Rattle.book.specs.Reach.{nearest, looked_at}
 use Rattle.book.proofs.book.source.nearest_end.Given as goal
 
 abbrev pub invariant-loop-rule : goal.invariant-loop-rule
-invariant-loop-rule l =
-    (l.end ≤ l.top) × (nearest l.index l.packet (looked_at l.index l.packet l.rules)
-    ≡ min l.end (nearest l.index l.packet (looked_at l.index l.packet (drop l.rule-index l.rules))))
+invariant-loop-rule l = record {
+  most : l.end ≤ get_or tops (place l.field) 0;
+  rest : nearest (place l.field) (values l.fn.packet) (looked_at (place l.field) (values l.fn.packet) l.rules)
+      ≡ min l.end (nearest (place l.field) (values l.fn.packet) (looked_at (place l.field) (values l.fn.packet) (drop l.rule-index l.rules)));
+}

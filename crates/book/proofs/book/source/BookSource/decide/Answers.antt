@@ -1,0 +1,9 @@
+use Rattle.packet.specs.Packets.{values}
+use Rattle.book.specs.Books.{rules_of}
+use Rattle.book.proofs.Scans.{first_found}
+use Rattle.book.proofs.book.source.BookSource.decide.Goals as goal
+
+pub returns : goal.returns
+returns g c =
+    let found = first_found g.K.Kind.SILENT (values c.args.packet.now) (rules_of c.args.self.now) in
+    cc
