@@ -70,11 +70,9 @@ fn push_range(out: &mut String, field: Field, range: Range<u32>) -> Result<(), A
 fn push_ranges(out: &mut String, region: Region) -> Result<(), AllocError>
     ensures { Appended result (string_bytes out.old) (ranges_text fields (ranges region)) (string_bytes out.new) }
 {
-    let mut index = 0;
-    while let Some(field) = Field::at(index) {
+    for field in Field::ALL {
         push_letter(out, b' ')?;
         push_range(out, field, region.range(field))?;
-        index += 1;
     }
     Ok(())
 }
