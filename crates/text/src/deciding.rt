@@ -1,7 +1,7 @@
 // The line of a text that decides a packet, found without a book.
 ghost use Rattle.std.specs.Prelude.{◌≡◌};
 ghost use Rattle.packet.specs.Packets.{values};
-ghost use Rattle.decision.specs.Kinds.{read_word};
+ghost use Rattle.text.specs.Reads.{reads};
 ghost use Rattle.text.specs.Pieces.{pieces};
 ghost use Rattle.text.specs.Lines.{line_of};
 ghost use Rattle.text.specs.Readings.{read_of};
@@ -17,7 +17,7 @@ const MOST: usize = 64;
 
 // How many rules there are with that of the line, behind `count` of the lines before it.
 fn count_line<K: Kind>(count: usize, line: Line) -> Result<usize, ReadFault>
-    ensures { result ≡ counted line.entry.number count (line_of (read_word K.Kind.COUNT K.Kind.SILENT K.Kind.spelling) line.entry.bytes.now) }
+    ensures { result ≡ counted line.entry.number count (line_of (reads K.Kind) line.entry.bytes.now) }
 {
     match line.read::<K>()? {
         None => Ok(count),
@@ -28,7 +28,7 @@ fn count_line<K: Kind>(count: usize, line: Line) -> Result<usize, ReadFault>
 
 // Does the text read well?
 fn check<K: Kind>(text: Text) -> Result<(), ReadFault>
-    ensures { result ≡ (read_of (read_word K.Kind.COUNT K.Kind.SILENT K.Kind.spelling) text.entry.bytes.now).answer }
+    ensures { result ≡ (read_of (reads K.Kind) text.entry.bytes.now).answer }
 {
     let mut count = 0;
     for line in text.lines() {
@@ -39,7 +39,7 @@ fn check<K: Kind>(text: Text) -> Result<(), ReadFault>
 
 // Does the line have a rule that holds the packet?
 fn line_holds<K: Kind>(line: Line, packet: Packet) -> bool
-    ensures { result ≡ said_holds (values packet) (line_of (read_word K.Kind.COUNT K.Kind.SILENT K.Kind.spelling) line.entry.bytes.now) }
+    ensures { result ≡ said_holds (values packet) (line_of (reads K.Kind) line.entry.bytes.now) }
 {
     match line.read::<K>() {
         Ok(Some(rule)) => rule.region.contains(packet),
@@ -49,7 +49,7 @@ fn line_holds<K: Kind>(line: Line, packet: Packet) -> bool
 
 // The first line whose rule holds the packet.
 fn first_line<'a, K: Kind>(text: Text<'a>, packet: Packet) -> Option<&'a [u8]>
-    ensures { LineAt result text.entry.bytes (first_line (read_word K.Kind.COUNT K.Kind.SILENT K.Kind.spelling) (values packet) 0 (pieces 10 text.entry.bytes.now)) }
+    ensures { LineAt result text.entry.bytes (first_line (reads K.Kind) (values packet) 0 (pieces 10 text.entry.bytes.now)) }
 {
     for line in text.lines() {
         if line_holds::<K>(line, packet) {
@@ -64,8 +64,8 @@ pub fn deciding_line<'a, K: Kind>(
     text: &'a [u8],
     packet: Packet,
 ) -> Result<Option<&'a [u8]>, ReadFault>
-    ensures place { Borrowed result text.entry (place_of (read_word K.Kind.COUNT K.Kind.SILENT K.Kind.spelling) (values packet) text.now) }
-    ensures decision { Decides K.Kind.COUNT K.Kind.SILENT (read_word K.Kind.COUNT K.Kind.SILENT K.Kind.spelling) (values packet) (read_of (read_word K.Kind.COUNT K.Kind.SILENT K.Kind.spelling) text.now).rules result }
+    ensures place { Borrowed result text.entry (place_of (reads K.Kind) (values packet) text.now) }
+    ensures decision { Decides K.Kind.COUNT K.Kind.SILENT (reads K.Kind) (values packet) (read_of (reads K.Kind) text.now).rules result }
 {
     let text = Text::new(text)?;
     check::<K>(text)?;

@@ -1,6 +1,6 @@
 // A line: a rule, or nothing.
 ghost use Rattle.std.specs.Prelude.{◌≡◌};
-ghost use Rattle.decision.specs.Kinds.{read_word};
+ghost use Rattle.text.specs.Reads.{reads};
 ghost use Rattle.text.specs.Pieces.{pieces};
 ghost use Rattle.text.specs.Lines.{skipped, rule_of, line_of};
 ghost use Rattle.text.specs.Steps.{carried};
@@ -28,7 +28,7 @@ fn is_skipped(line: &[u8]) -> bool
 impl<'a> Line<'a> {
     // rule = decision region
     fn rule<K: Kind>(self) -> Result<Rule, LineFault>
-        ensures { result ≡ rule_of (read_word K.Kind.COUNT K.Kind.SILENT K.Kind.spelling) (pieces 32 self.entry.bytes.now) }
+        ensures { result ≡ rule_of (reads K.Kind) (pieces 32 self.entry.bytes.now) }
     {
         let mut words = Lexer::new(self);
         let Some(token) = words.next() else {
@@ -43,7 +43,7 @@ impl<'a> Line<'a> {
 
     // line = nothing | "#" letters | rule
     fn said<K: Kind>(self) -> Result<Option<Rule>, LineFault>
-        ensures { result ≡ line_of (read_word K.Kind.COUNT K.Kind.SILENT K.Kind.spelling) self.entry.bytes.now }
+        ensures { result ≡ line_of (reads K.Kind) self.entry.bytes.now }
     {
         letters(self.bytes)?;
         if is_skipped(self.bytes) {
@@ -55,7 +55,7 @@ impl<'a> Line<'a> {
 
     // What the line says. Its fault is taken up with its number.
     pub(crate) fn read<K: Kind>(self) -> Result<Option<Rule>, ReadFault>
-        ensures { result ≡ carried (fault.Line self.entry.number) (line_of (read_word K.Kind.COUNT K.Kind.SILENT K.Kind.spelling) self.entry.bytes.now) }
+        ensures { result ≡ carried (fault.Line self.entry.number) (line_of (reads K.Kind) self.entry.bytes.now) }
     {
         self.said::<K>().map_err(|fault| ReadFault::Line {
             line: self.number,

@@ -1,6 +1,6 @@
 // The winning line of two texts.
 ghost use Rattle.packet.specs.Packets.{values};
-ghost use Rattle.decision.specs.Kinds.{read_word};
+ghost use Rattle.text.specs.Reads.{reads};
 ghost use Rattle.text.specs.DecidingLines.{place_of};
 ghost use Rattle.winner.specs.Winners.{Wins, Settles};
 
@@ -27,8 +27,8 @@ pub fn winner<'a, K: Kind>(
     second: &'a [u8],
     packet: Packet,
 ) -> Result<Option<WinningLine<'a>>, WinnerFault>
-    ensures place { Wins result first.entry second.entry (place_of (read_word K.Kind.COUNT K.Kind.SILENT K.Kind.spelling) (values packet)) }
-    ensures decision { Settles K.Kind.COUNT K.Kind.SILENT (read_word K.Kind.COUNT K.Kind.SILENT K.Kind.spelling) (values packet) first.now second.now result }
+    ensures place { Wins result first.entry second.entry (place_of (reads K.Kind) (values packet)) }
+    ensures decision { Settles K.Kind.COUNT K.Kind.SILENT (reads K.Kind) (values packet) first.now second.now result }
 {
     let upper = deciding_line::<K>(first, packet).map_err(WinnerFault::First)?;
     let lower = deciding_line::<K>(second, packet).map_err(WinnerFault::Second)?;

@@ -1,7 +1,7 @@
 use Rattle.std.proofs.Common.{◌+◌, [], length, sym, refl, ap, ◌∙◌, rules}
 use Rattle.std.proofs.lemmas.Result.{err_from_is_err_and}
 use Rattle.std.proofs.lemmas.Bool.{le-ltb, cond-false}
-use Rattle.decision.specs.Kinds.{read_word}
+use Rattle.text.specs.Reads.{reads}
 use Rattle.text.specs.Lines.{line_of}
 use Rattle.text.specs.Readings.{Reading, add_line, lines_from}
 use Rattle.text.proofs.Lined.{left_more, left_stop, left_end}
@@ -10,12 +10,12 @@ use Rattle.text.proofs.deciding.check.Goals as goal
 
 pub loop-line-init : goal.loop-line-init
 loop-line-init g c =
-    let read = read_word g.K.Kind.COUNT g.K.Kind.SILENT g.K.Kind.spelling in
+    let read = reads g.K.Kind in
     ([], refl, search rules)
 
 pub loop-line-preserved : goal.loop-line-preserved
 loop-line-preserved g c =
-    let read = read_word g.K.Kind.COUNT g.K.Kind.SILENT g.K.Kind.spelling in
+    let read = reads g.K.Kind in
     let rules = c.loop-line.invariant.0 in
     let told = counted_taken c.in-Some.line.number rules c.loop-line.count c.loop-line.invariant.1 (line_of read c.in-Some.line.bytes.now) c.in_ok-count.count c.in_ok-count.ensures in (
       (add_line read c.in-Some.line.number c.in-Some.line.bytes.now rules).rules,
@@ -25,7 +25,7 @@ loop-line-preserved g c =
 
 pub returns-in_err-count : goal.returns-in_err-count
 returns-in_err-count g c =
-    let read = read_word g.K.Kind.COUNT g.K.Kind.SILENT g.K.Kind.spelling in
+    let read = reads g.K.Kind in
     let rules = c.loop-line.invariant.0 in
     let told = counted_stop c.in-Some.line.number rules c.loop-line.count c.loop-line.invariant.1 (line_of read c.in-Some.line.bytes.now) c.in_err-count.field-0.0 c.in_err-count.ensures in
     let p = err_from_is_err_and c.from_residual.result c.from_residual.ensures.1 in
@@ -34,6 +34,6 @@ returns-in_err-count g c =
 
 pub returns : goal.returns
 returns g c =
-    let read = read_word g.K.Kind.COUNT g.K.Kind.SILENT g.K.Kind.spelling in
+    let read = reads g.K.Kind in
     let is = c.loop-line.invariant.2 ∙ left_end read c.loop-line.line-iterator c.loop-line.invariant.0 c.in-None.ensures.steps.0 in
     sym (ap (λ (s : Reading). s.answer) is)

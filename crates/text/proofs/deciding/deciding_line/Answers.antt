@@ -1,6 +1,6 @@
 use Rattle.std.proofs.Common.{◌≡◌, ℕ, List, Ok, sym, subst, rules, Bor}
 use Rattle.packet.specs.Packets.{values}
-use Rattle.decision.specs.Kinds.{read_word}
+use Rattle.text.specs.Reads.{reads}
 use Rattle.text.specs.Readings.{read_of}
 use Rattle.text.specs.DecidingLines.{place_of, Borrowed, Decides}
 use Rattle.text.proofs.Found.{line_borrowed, line_decides}
@@ -8,7 +8,7 @@ use Rattle.text.proofs.deciding.deciding_line.Goals as goal
 
 pub returns : goal.returns
 returns g c =
-    let read = read_word g.K.Kind.COUNT g.K.Kind.SILENT g.K.Kind.spelling in
+    let read = reads g.K.Kind in
     let p = values c.args.packet in
     let line = c.first_line.result in
     let same : c.in_ok-text.text.bytes ≡ c.args.text = search rules in

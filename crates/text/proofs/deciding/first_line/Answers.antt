@@ -1,6 +1,6 @@
 use Rattle.std.proofs.Common.{◌≡◌, ◌+◌, length, Some, sym, ap, ◌∙◌, subst, arith, rules, refl}
 use Rattle.packet.specs.Packets.{values}
-use Rattle.decision.specs.Kinds.{read_word}
+use Rattle.text.specs.Reads.{reads}
 use Rattle.text.specs.Pieces.{pieces, left, LiesAt}
 use Rattle.text.specs.DecidingLines.{first_line}
 use Rattle.text.proofs.Found.{Cut, cut_whole, cut_bytes, cut_within, cut_more, line_here, line_later, line_none}
@@ -14,12 +14,12 @@ loop-line-init g c =
       0,
       subst (LiesAt c.args.text.bytes 0) (sym place) (refl, search rules),
       cut_whole c.args.text.bytes.now (left lines) all,
-      ap (first_line (read_word g.K.Kind.COUNT g.K.Kind.SILENT g.K.Kind.spelling) (values c.args.packet) 0) (sym all),
+      ap (first_line (reads g.K.Kind) (values c.args.packet) 0) (sym all),
     )
 
 pub returns-then-line_holds : goal.returns-then-line_holds
 returns-then-line_holds g c =
-    let read = read_word g.K.Kind.COUNT g.K.Kind.SILENT g.K.Kind.spelling in
+    let read = reads g.K.Kind in
     let text = c.args.text.bytes in
     let line = c.in-Some.line.bytes in
     let start = c.loop-line.invariant.0 in
@@ -35,7 +35,7 @@ returns-then-line_holds g c =
 
 pub loop-line-preserved : goal.loop-line-preserved
 loop-line-preserved g c =
-    let read = read_word g.K.Kind.COUNT g.K.Kind.SILENT g.K.Kind.spelling in
+    let read = reads g.K.Kind in
     let text = c.args.text.bytes in
     let line = c.in-Some.line.bytes in
     let start = c.loop-line.invariant.0 in
@@ -50,6 +50,6 @@ loop-line-preserved g c =
 
 pub returns : goal.returns
 returns g c =
-    let read = read_word g.K.Kind.COUNT g.K.Kind.SILENT g.K.Kind.spelling in
+    let read = reads g.K.Kind in
     let start = c.loop-line.invariant.0 in
     c.loop-line.invariant.3 ∙ ap (first_line read (values c.args.packet) start) c.in-None.ensures.steps.0 ∙ line_none read (values c.args.packet) start

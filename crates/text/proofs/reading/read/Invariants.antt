@@ -1,5 +1,5 @@
 use Rattle.std.proofs.Common.{◌≡◌}
-use Rattle.decision.specs.Kinds.{read_word}
+use Rattle.text.specs.Reads.{reads}
 use Rattle.book.specs.Books.{rules_of}
 use Rattle.text.specs.Readings.{read_of}
 use Rattle.text.proofs.Lined.{lines_left}
@@ -7,5 +7,5 @@ use Rattle.text.proofs.reading.read.Given as goal
 
 abbrev pub invariant-loop-line : goal.invariant-loop-line
 invariant-loop-line g l =
-    let read = read_word g.K.Kind.COUNT g.K.Kind.SILENT g.K.Kind.spelling in
+    let read = reads g.K.Kind in
     read_of read l.text ≡ lines_left read l.line-iterator (rules_of l.book)
