@@ -3,7 +3,6 @@ use Rattle.std.proofs.Common.{◌≡◌, ℕ, suc, ◌+◌, ◌-◌, ◌/◌, �
 use mathlib.Core.Logic.{∥∥₁_elim}
 use native.Mathlib.Bridge.{le_prop}
 use Rattle.std.proofs.lemmas.Str.{IsCharBoundary-from_take}
-use Rattle.std.proofs.lemmas.Fmt.{decimal_digit, decimal_step}
 use Rattle.std.proofs.lemmas.List.{append_assoc, append-nil, take_at, drop_more, drop_all}
 use Rattle.std.proofs.lemmas.Bool.{eq-eqb, ne_eqb, cond-true, cond-false}
 use Rattle.packet.specs.declared.field.Field.{Field}
@@ -52,12 +51,6 @@ module _ {T E : Type 0} where
   pub nothing_written : (r : Result T E) (before text : List ℕ) → true ≡ is_err r → before ≡ before ++ cond (is_ok r) text []
   nothing_written (Ok x) before text err = let y : ◌≡◌ {A = ℕ} 0 1 = cc in absurd (omega arith)
   nothing_written (Err x) before text err = sym (append-nil before)
-
-pub digit_one : (n : ℕ) → n < 10 → decimal n ≡ (48 + n) ∷ []
-digit_one n h = decimal_digit n h
-
-pub digit_more : (n : ℕ) → 10 ≤ n → n < 2 ^ 32 → decimal n ≡ decimal (n / 10) ++ ((48 + n % 10) ∷ [])
-digit_more n h k = decimal_step n h (omega arith)
 
 pub byte_last : (more n : ℕ) → more ≡ 0 → bytes_text more n ≡ decimal (n % 256)
 unfolding bytes_text

@@ -1,41 +1,30 @@
--- One byte more of a text that is cut at a byte. Assumes nothing.
-use Rattle.std.proofs.Common.{◌≡◌, ℕ, ◌+◌, ◌<◌, ◌≤◌, Bool, true, false, cond, eqb, List, [], ◌∷◌, ◌++◌, length, get_or, take, drop, sym, refl, ap, ◌∙◌, arith}
-use Rattle.std.proofs.lemmas.List.{at_drop_more, at_drop_all, append_assoc, append-nil, take_more, take_all}
+-- The pieces of a text that is cut at a byte. Assumes nothing.
+use Rattle.std.proofs.Common.{◌≡◌, ◌≢◌, ℕ, zero, suc, ◌+◌, ◌-◌, ◌<◌, Bool, true, false, cond, eqb, List, [], ◌∷◌, length, get_or, take, drop, refl, ap, ◌∙◌, arith, add-one}
+use Rattle.std.proofs.lemmas.List.{take_rest}
 use Rattle.std.proofs.lemmas.Bool.{eq-eqb, ne_eqb}
 use Rattle.text.specs.Pieces.{pieces, longer, extent}
 
--- bytes before the first piece
-abbrev pub onto : List ℕ → List (List ℕ) → List (List ℕ)
-onto xs [] = []
-onto xs (p ∷ ps) = (xs ++ p) ∷ ps
+-- the first piece ends at the first separator
+first_at : (sep : ℕ) (text : List ℕ) (i : ℕ) → i < length text → get_or text i 0 ≡ sep → ((k : ℕ) → k < i → get_or text k 0 ≢ sep) → pieces sep text ≡ take i text ∷ pieces sep (drop (suc i) text)
+unfolding pieces
+first_at sep [] i inside same before = absurd (omega arith)
+first_at sep (b ∷ bs) zero inside same before = ap (λ t. cond t ([] ∷ pieces sep bs) (longer b (pieces sep bs))) (eq-eqb b sep same)
+first_at sep (b ∷ bs) (suc i) inside same before =
+    ap (λ t. cond t ([] ∷ pieces sep bs) (longer b (pieces sep bs))) (ne_eqb b sep (before 0 (omega arith)))
+    ∙ ap (longer b) (first_at sep bs i (omega arith) same (λ k below. before (suc k) (omega arith)))
 
-onto_longer : (xs : List ℕ) (b : ℕ) (ps : List (List ℕ)) → onto xs (longer b ps) ≡ onto (xs ++ b ∷ []) ps
-onto_longer xs b [] = refl
-onto_longer xs b (p ∷ ps) = ap (λ y. y ∷ ps) (sym (append_assoc xs (b ∷ []) p))
+-- the same with what stands behind the separator as it is sliced
+pub piece_at : (sep : ℕ) (text : List ℕ) (i : ℕ) → i < length text → get_or text i 0 ≡ sep → ((k : ℕ) → k < i → get_or text k 0 ≢ sep)
+    → pieces sep text ≡ take i text ∷ pieces sep (take (length text - (i + 1)) (drop (i + 1) text))
+piece_at sep text i inside same before = first_at sep text i inside same before ∙ simp (take_rest, add-one)
 
-pub onto_none : (ps : List (List ℕ)) → onto [] ps ≡ ps
-onto_none [] = refl
-onto_none (p ∷ ps) = refl
-
-module _ (sep : ℕ) (text : List ℕ) (i : ℕ) where
-  opened : i < length text → pieces sep (drop i text) ≡ cond (eqb (get_or text i 0) sep) ([] ∷ pieces sep (drop (i + 1) text)) (longer (get_or text i 0) (pieces sep (drop (i + 1) text)))
-  unfolding pieces
-  opened within = at_drop_more (pieces sep) text i 0 within
-
-  pub byte_more : i < length text → (get_or text i 0 ≡ sep → ⊥) → onto (take i text) (pieces sep (drop i text)) ≡ onto (take (i + 1) text) (pieces sep (drop (i + 1) text))
-  byte_more within other =
-      ap (onto (take i text)) (opened within ∙ ap (λ b. cond b ([] ∷ pieces sep (drop (i + 1) text)) (longer (get_or text i 0) (pieces sep (drop (i + 1) text)))) (ne_eqb (get_or text i 0) sep other))
-      ∙ onto_longer (take i text) (get_or text i 0) (pieces sep (drop (i + 1) text))
-      ∙ ap (λ xs. onto xs (pieces sep (drop (i + 1) text))) (sym (take_more text i 0 within))
-
-  pub byte_stop : i < length text → get_or text i 0 ≡ sep → onto (take i text) (pieces sep (drop i text)) ≡ take i text ∷ pieces sep (drop (i + 1) text)
-  byte_stop within same =
-      ap (onto (take i text)) (opened within ∙ ap (λ b. cond b ([] ∷ pieces sep (drop (i + 1) text)) (longer (get_or text i 0) (pieces sep (drop (i + 1) text)))) (eq-eqb (get_or text i 0) sep same))
-      ∙ ap (λ xs. xs ∷ pieces sep (drop (i + 1) text)) (append-nil (take i text))
-
-  pub byte_end : length text ≤ i → onto (take i text) (pieces sep (drop i text)) ≡ text ∷ []
-  unfolding pieces
-  byte_end past = ap (onto (take i text)) (at_drop_all (pieces sep) text i past) ∙ ap (λ xs. xs ∷ []) (append-nil (take i text) ∙ take_all i text past)
+-- a text without a separator is one piece
+pub piece_whole : (sep : ℕ) (text : List ℕ) → ((k : ℕ) → k < length text → get_or text k 0 ≢ sep) → pieces sep text ≡ text ∷ []
+unfolding pieces
+piece_whole sep [] none = refl
+piece_whole sep (b ∷ bs) none =
+    ap (λ t. cond t ([] ∷ pieces sep bs) (longer b (pieces sep bs))) (ne_eqb b sep (none 0 (omega arith)))
+    ∙ ap (longer b) (piece_whole sep bs (λ k below. none (suc k) (omega arith)))
 
 -- pieces with a separator behind each are as long as the text with one more
 pub extent_pieces : (sep : ℕ) (t : List ℕ) → extent (pieces sep t) ≡ length t + 1

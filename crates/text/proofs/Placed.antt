@@ -1,5 +1,5 @@
 -- One field more of a region that is read field by field. Assumes nothing.
-use Rattle.std.proofs.Common.{◌≡◌, ℕ, ◌+◌, ◌<◌, ◌≤◌, List, [], ◌∷◌, ◌++◌, length, get_or, take, drop, set, Ok, Err, Result, sym, refl, ap, ◌∙◌, arith}
+use Rattle.std.proofs.Common.{◌≡◌, ℕ, zero, suc, ◌+◌, ◌<◌, ◌≤◌, List, [], ◌∷◌, ◌++◌, length, get_or, take, drop, set, Ok, Err, Result, sym, refl, ap, ◌∙◌, arith}
 use Rattle.std.proofs.lemmas.List.{append_assoc, drop_all, take_more_set}
 use Rattle.packet.specs.declared.field.Field.{Field}
 use Rattle.packet.specs.declared.field.Field.TheVariants.{Source, SourcePort, Destination, DestinationPort, Protocol}
@@ -34,6 +34,15 @@ field_here SourcePort = refl
 field_here Destination = refl
 field_here DestinationPort = refl
 field_here Protocol = refl
+
+-- the field that stands at a place
+pub field_nth : (i : ℕ) → i < 5 → place (get_or fields i Source) ≡ i
+field_nth zero h = refl
+field_nth (suc zero) h = refl
+field_nth (suc (suc zero)) h = refl
+field_nth (suc (suc (suc zero))) h = refl
+field_nth (suc (suc (suc (suc zero)))) h = refl
+field_nth (suc (suc (suc (suc (suc i))))) h = absurd (omega arith)
 
 pub field_within : (field : Field) → place field < 5
 field_within Source = omega arith

@@ -13,7 +13,8 @@ use Rattle.book.specs.declared.refusal.Refusal.{Refusal}
 use Rattle.book.specs.declared.refusal.Refusal.TheVariants.{Full}
 use Rattle.book.specs.PlainList.{Step, taken, refused, speaks, add, with_rule}
 use Rattle.text.specs.declared.faults.LineFault.TheVariants.{Letter, Word}
-use Rattle.text.specs.declared.faults.ReadFault.TheVariants.{Full as FullBook}
+use Rattle.text.specs.declared.faults.ReadFault.{ReadFault}
+use Rattle.text.specs.declared.faults.ReadFault.TheVariants.{Line, Full as FullBook}
 use Rattle.text.specs.Pieces.{pieces}
 use Rattle.text.specs.Letters.{letters_of}
 use Rattle.text.specs.Words.{words_of}
@@ -127,18 +128,12 @@ module _ (n silent : ℕ) (spelling : ℕ → List ℕ) (number : ℕ) (line : L
   says_so : Ok (Some rule) ≡ line_of (read_word n silent spelling) line → line_step ≡ cond (leb 64 (length rules)) (ended (Err (FullBook number)) rules) (ended (Ok tt) (rules ++ (rule ∷ [])))
   says_so says = ap (added number rules) (sym says)
 
-  pub add_taken : Ok (Some rule) ≡ line_of (read_word n silent spelling) line → at ≡ length rules → Ok tt ≡ step.answer → line_step ≡ ended (Ok tt) step.rules
-  add_taken says end is = at_room (leb 64 (length rules)) (plain_add says end) (says_so says)
+  -- a line's rule is refused as the book refuses it, and else added
+  pub add_said : ◌≡◌ {A = Result (Option Rule) ReadFault} (Ok (Some rule)) (carried (Line number) (line_of (read_word n silent spelling) line)) → at ≡ length rules
+      → (line_step.answer ≡ carried (λ _. FullBook number) step.answer) × (line_step.rules ≡ step.rules)
+  add_said e end = let says = carried_ok (Line number) _ _ e in at_room (leb 64 (length rules)) (plain_add says end) (says_so says)
     where
       at_room : (b : Bool) → step ≡ cond b (refused Full rules) (taken tt (rules ++ (rule ∷ []))) → line_step ≡ cond b (ended (Err (FullBook number)) rules) (ended (Ok tt) (rules ++ (rule ∷ [])))
-          → line_step ≡ ended (Ok tt) step.rules
-      at_room true e f = let never : ◌≡◌ {A = Result (Unit {0}) Refusal} (Ok tt) (Err Full) = is ∙ ap (λ (s : Step (Unit {0})). s.answer) e in let z : ◌≡◌ {A = ℕ} 0 1 = cc in absurd (omega arith)
-      at_room false e f = f ∙ ap (λ (s : Step (Unit {0})). ended (Ok tt) s.rules) (sym e)
-
-  pub add_refused : (why : Refusal) → Ok (Some rule) ≡ line_of (read_word n silent spelling) line → at ≡ length rules → Err why ≡ step.answer → line_step ≡ ended (Err (FullBook number)) step.rules
-  add_refused why says end is = at_room (leb 64 (length rules)) (plain_add says end) (says_so says)
-    where
-      at_room : (b : Bool) → step ≡ cond b (refused Full rules) (taken tt (rules ++ (rule ∷ []))) → line_step ≡ cond b (ended (Err (FullBook number)) rules) (ended (Ok tt) (rules ++ (rule ∷ [])))
-          → line_step ≡ ended (Err (FullBook number)) step.rules
-      at_room true e f = f ∙ ap (λ (s : Step (Unit {0})). ended (Err (FullBook number)) s.rules) (sym e)
-      at_room false e f = let never : ◌≡◌ {A = Result (Unit {0}) Refusal} (Err why) (Ok tt) = is ∙ ap (λ (s : Step (Unit {0})). s.answer) e in let z : ◌≡◌ {A = ℕ} 0 1 = cc in absurd (omega arith)
+          → (line_step.answer ≡ carried (λ _. FullBook number) step.answer) × (line_step.rules ≡ step.rules)
+      at_room true e f = (ap (λ (s : Reading). s.answer) f ∙ sym (ap (λ (s : Step (Unit {0})). carried (λ _. FullBook number) s.answer) e), ap (λ (s : Reading). s.rules) f ∙ sym (ap (λ (s : Step (Unit {0})). s.rules) e))
+      at_room false e f = (ap (λ (s : Reading). s.answer) f ∙ sym (ap (λ (s : Step (Unit {0})). carried (λ _. FullBook number) s.answer) e), ap (λ (s : Reading). s.rules) f ∙ sym (ap (λ (s : Step (Unit {0})). s.rules) e))

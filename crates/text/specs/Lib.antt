@@ -8,6 +8,7 @@ pub mod Letters
 pub mod Words
 pub mod Fields
 pub mod Lines
+pub mod Reads
 pub mod Readings
 pub mod Printing
 pub mod DecidingLines

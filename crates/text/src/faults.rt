@@ -4,14 +4,14 @@ ghost use Rattle.text.specs.Faults.{report_of};
 ghost use Rattle.text.specs.declared.faults.LineFault.TheVariants.{Letter, Word};
 
 // Layer 1. 7: a byte outside 32 to 126.
-#[derive(Clone, Copy, Debug)]
+#[derive(Clone, Copy, PartialEq, Eq, Debug)]
 pub struct LetterFault {
     pub byte: u8,
     pub column: usize,
 }
 
 // Layer 2, at the column where the word begins.
-#[derive(Clone, Copy, Debug)]
+#[derive(Clone, Copy, PartialEq, Eq, Debug)]
 pub enum WordFault {
     // 10: a malformed or too large number.
     Number { column: usize },
@@ -20,7 +20,7 @@ pub enum WordFault {
 }
 
 // Layer 3.
-#[derive(Clone, Copy, Debug)]
+#[derive(Clone, Copy, PartialEq, Eq, Debug)]
 pub enum LineFault {
     Letter(LetterFault),
     Word(WordFault),
@@ -31,7 +31,7 @@ pub enum LineFault {
 }
 
 // Layer 4. Lines are counted from 1.
-#[derive(Clone, Copy, Debug)]
+#[derive(Clone, Copy, PartialEq, Eq, Debug)]
 pub enum ReadFault {
     Line { line: usize, fault: LineFault },
     // 1: a 65th rule.

@@ -11,16 +11,16 @@ fn is_letter(byte: u8) -> bool
     matches!(byte, b' '..=b'~')
 }
 
+// The first byte that is no letter is a fault.
+#[tactic(auto, using(crate::proofs::Lettered::letter_all))]
 pub(crate) fn letters(line: &[u8]) -> Result<(), LetterFault>
     ensures { result ≡ letters_of line.now }
 {
-    for (index, byte) in line.iter().enumerate() {
-        if !is_letter(*byte) {
-            return Err(LetterFault {
-                byte: *byte,
-                column: index + 1,
-            });
-        }
+    match line.iter().position(|byte| !is_letter(*byte)) {
+        None => Ok(()),
+        Some(index) => Err(LetterFault {
+            byte: line[index],
+            column: index + 1,
+        }),
     }
-    Ok(())
 }

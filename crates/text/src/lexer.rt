@@ -1,8 +1,10 @@
 // A line cut into tokens.
-ghost use Rattle.std.specs.Prelude.{◌≡◌, ◌+◌, ◌^◌, ◌<◌, [], length, MatchOption};
+ghost use Rattle.std.specs.Prelude.{◌≡◌, ◌+◌, ◌^◌, ◌<◌, [], MatchOption};
+ghost use Rattle.std.specs.Iterator.{item_count};
 ghost use Rattle.text.specs.Pieces.{pieces, left, extent};
 ghost use Rattle.text.specs.Tokens.{Taken};
 
+use crate::lines::Line;
 use crate::pieces::Pieces;
 use crate::tokens::Token;
 
@@ -14,20 +16,27 @@ pub(crate) struct Lexer<'a> {
 }
 
 impl<'a> Lexer<'a> {
-    pub(crate) fn new(line: &'a [u8]) -> Lexer<'a>
-        requires { length line.now + 2 < 2 ^ 64 }
-        ensures { (left result.words ≡ pieces 32 line.now) × (result.column ≡ 1) }
+    #[tactic(auto, using(crate::proofs::Cuts::extent_pieces))]
+    pub(crate) fn new(line: Line<'a>) -> Lexer<'a>
+        ensures { (left result.words ≡ pieces 32 line.entry.bytes.now) × (result.column ≡ 1) }
     {
         Lexer {
-            words: Pieces::new(line, b' '),
+            words: Pieces::new(line.bytes, b' '),
             column: 1,
         }
     }
 
+}
+
+impl<'a> Iterator for Lexer<'a> {
+    type Item = Token<'a>;
+
+    ghost next_gives = { λ s r t. MatchOption r ((left s.words ≡ []) × (left t.words ≡ [])) (λ token. Taken token (left s.words) s.column (left t.words) t.column) };
+
+    ghost remaining = { item_count (λ s. left s.words) };
+
     // The next word, up to the next space or the line's end.
-    pub(crate) fn next(&mut self) -> Option<Token<'a>>
-        ensures { MatchOption result ((left self.old.words ≡ []) × (left self.new.words ≡ [])) (λ token. Taken token (left self.old.words) self.old.column (left self.new.words) self.new.column) }
-    {
+    fn next(&mut self) -> Option<Token<'a>> {
         let column = self.column;
         let text = self.words.next()?;
         self.column = column + text.len() + 1;

@@ -13,6 +13,7 @@ pub mod faults;
 mod letters;
 mod lexer;
 mod line;
+mod lines;
 mod numbers;
 mod pieces;
 pub mod print;

@@ -1,12 +1,15 @@
 // A line: a rule, or nothing.
-ghost use Rattle.std.specs.Prelude.{◌≡◌, ◌≤◌, length};
-ghost use Rattle.decision.specs.Kinds.{read_word};
+ghost use Rattle.std.specs.Prelude.{◌≡◌};
+ghost use Rattle.text.specs.Reads.{reads};
 ghost use Rattle.text.specs.Pieces.{pieces};
 ghost use Rattle.text.specs.Lines.{skipped, rule_of, line_of};
+ghost use Rattle.text.specs.Steps.{carried};
+ghost use Rattle.text.specs.declared.faults.ReadFault.TheVariants as fault;
 
-use crate::faults::LineFault;
+use crate::faults::{LineFault, ReadFault};
 use crate::letters::letters;
 use crate::lexer::Lexer;
+use crate::lines::Line;
 use crate::regions::region;
 use crate::words::six_words;
 use book::Rule;
@@ -22,31 +25,41 @@ fn is_skipped(line: &[u8]) -> bool
     }
 }
 
-// rule = decision region
-fn rule<K: Kind>(line: &[u8]) -> Result<Rule, LineFault>
-    requires { length line.now ≤ 16384 }
-    ensures { result ≡ rule_of (read_word K.Kind.COUNT K.Kind.SILENT K.Kind.spelling) (pieces 32 line.now) }
-{
-    let mut words = Lexer::new(line);
-    let Some(token) = words.next() else {
-        return Err(LineFault::Words { column: 1 });
-    };
-    let Some(decision) = K::read(token.text()) else {
-        return Err(LineFault::Decision);
-    };
-    let region = region(&mut words)?;
-    Ok(Rule { region, decision })
-}
-
-// line = nothing | "#" letters | rule
-pub(crate) fn line<K: Kind>(text: &[u8]) -> Result<Option<Rule>, LineFault>
-    requires { length text.now ≤ 16384 }
-    ensures { result ≡ line_of (read_word K.Kind.COUNT K.Kind.SILENT K.Kind.spelling) text.now }
-{
-    letters(text)?;
-    if is_skipped(text) {
-        return Ok(None);
+impl<'a> Line<'a> {
+    // rule = decision region
+    fn rule<K: Kind>(self) -> Result<Rule, LineFault>
+        ensures { result ≡ rule_of (reads K.Kind) (pieces 32 self.entry.bytes.now) }
+    {
+        let mut words = Lexer::new(self);
+        let Some(token) = words.next() else {
+            return Err(LineFault::Words { column: 1 });
+        };
+        let Some(decision) = K::read(token.text()) else {
+            return Err(LineFault::Decision);
+        };
+        let region = region(&mut words)?;
+        Ok(Rule { region, decision })
     }
-    six_words(text)?;
-    Ok(Some(rule::<K>(text)?))
+
+    // line = nothing | "#" letters | rule
+    fn said<K: Kind>(self) -> Result<Option<Rule>, LineFault>
+        ensures { result ≡ line_of (reads K.Kind) self.entry.bytes.now }
+    {
+        letters(self.bytes)?;
+        if is_skipped(self.bytes) {
+            return Ok(None);
+        }
+        six_words(self)?;
+        Ok(Some(self.rule::<K>()?))
+    }
+
+    // What the line says. Its fault is taken up with its number.
+    pub(crate) fn read<K: Kind>(self) -> Result<Option<Rule>, ReadFault>
+        ensures { result ≡ carried (fault.Line self.entry.number) (line_of (reads K.Kind) self.entry.bytes.now) }
+    {
+        self.said::<K>().map_err(|fault| ReadFault::Line {
+            line: self.number,
+            fault,
+        })
+    }
 }

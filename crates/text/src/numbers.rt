@@ -48,7 +48,7 @@ pub(crate) fn address(word: &[u8]) -> Option<u32>
 {
     let mut parts = Pieces::new(word, b'.');
     let mut value: u32 = 0;
-    for _index in 0..4_usize {
+    for _ in 0..4_usize {
         value = value * 256 + number(parts.next()?, 255)?;
     }
     match parts.next() {

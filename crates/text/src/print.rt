@@ -5,9 +5,11 @@ ghost use Rattle.text.specs.Fields.{fields};
 ghost use Rattle.text.specs.Printing.{Appended, bytes_text, value_text, whole, range_text, ranges_text, line_text};
 
 use decision::Kind;
+use itoa::Buffer;
 use packet::{Field, Range, Region};
 use std::alloc::AllocError;
 
+// Each of these leaves the text as it was, or begun, when memory runs out. A `write!` would promise nothing of the text then.
 fn push_letter(out: &mut String, letter: u8) -> Result<(), AllocError>
     requires { letter < 128 }
     ensures { Appended result (string_bytes out.old) (letter ∷ []) (string_bytes out.new) }
@@ -18,11 +20,7 @@ fn push_letter(out: &mut String, letter: u8) -> Result<(), AllocError>
 fn push_number(out: &mut String, number: u32) -> Result<(), AllocError>
     ensures { Appended result (string_bytes out.old) (decimal number) (string_bytes out.new) }
 {
-    if number < 10 {
-        return push_letter(out, b'0' + number as u8);
-    }
-    push_number(out, number / 10)?;
-    push_letter(out, b'0' + (number % 10) as u8)
+    out.push_str(Buffer::new().format(number))
 }
 
 // The lowest bytes of a number, `more` and one, with full stops between them.
@@ -70,11 +68,9 @@ fn push_range(out: &mut String, field: Field, range: Range<u32>) -> Result<(), A
 fn push_ranges(out: &mut String, region: Region) -> Result<(), AllocError>
     ensures { Appended result (string_bytes out.old) (ranges_text fields (ranges region)) (string_bytes out.new) }
 {
-    let mut index = 0;
-    while let Some(field) = Field::at(index) {
+    for field in Field::ALL {
         push_letter(out, b' ')?;
         push_range(out, field, region.range(field))?;
-        index += 1;
     }
     Ok(())
 }

@@ -13,14 +13,12 @@ pub(crate) fn region(words: &mut Lexer) -> Result<Region, LineFault>
     ensures { result ≡ region_from words.old.column (left words.old.words) }
 {
     let mut region = Region::EVERYTHING;
-    let mut index = 0;
-    while let Some(field) = Field::at(index) {
+    for field in Field::ALL {
         let column = words.column;
         let Some(token) = words.next() else {
             return Err(LineFault::Words { column });
         };
         region = region.with(field, range(field, token)?);
-        index += 1;
     }
     Ok(region)
 }

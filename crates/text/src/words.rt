@@ -1,20 +1,20 @@
 // The words of a line: how many there are, and what ranges they write.
-ghost use Rattle.std.specs.Prelude.{◌≡◌, ◌≤◌, length};
+ghost use Rattle.std.specs.Prelude.{◌≡◌};
 ghost use Rattle.text.specs.Words.{words_of};
 
 use crate::faults::LineFault;
 use crate::lexer::Lexer;
+use crate::lines::Line;
 
 // line = six words, none of them empty
-pub(crate) fn six_words(line: &[u8]) -> Result<(), LineFault>
-    requires { length line.now ≤ 16384 }
-    ensures { result ≡ words_of line.now }
+pub(crate) fn six_words(line: Line) -> Result<(), LineFault>
+    ensures { result ≡ words_of line.entry.bytes.now }
 {
     let mut words = Lexer::new(line);
-    for _index in 0..6_usize {
+    for _ in 0..6_usize {
         let Some(token) = words.next() else {
             return Err(LineFault::Words {
-                column: line.len() + 1,
+                column: line.bytes.len() + 1,
             });
         };
         if token.text().is_empty() {

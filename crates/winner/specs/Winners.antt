@@ -6,16 +6,14 @@ use Rattle.book.specs.Deciding.{meant}
 use Rattle.text.specs.declared.faults.ReadFault.{ReadFault}
 use Rattle.text.specs.Readings.{read_of}
 use Rattle.text.specs.DecidingLines.{Place, Lies, Says}
-use Rattle.winner.specs.declared.winning.WinningLine.{WinningLine}
-use Rattle.winner.specs.declared.winning.WinningLine.TheVariants.{First, Second}
-use Rattle.winner.specs.declared.winning.WinnerFault.{WinnerFault}
-use Rattle.winner.specs.declared.winning.WinnerFault.TheVariants.{First as OfFirst, Second as OfSecond}
+use Rattle.winner.specs.declared.winning.Of.{Of}
+use Rattle.winner.specs.declared.winning.Of.TheVariants.{First, Second}
 
 -- the answer, if `place` gives the deciding line of a text: a fault of the first text, then one of the second, then the line of the
 -- first, then that of the second
-abbrev pub Wins : Result (Option WinningLine) WinnerFault → Bor (List ℕ) → Bor (List ℕ) → (List ℕ → Result (Option Place) ReadFault) → Type 0
-Wins (Err (OfFirst fault)) first second place = place first.now ≡ Err fault
-Wins (Err (OfSecond fault)) first second place = (is_ok (place first.now) ≡ true) × (place second.now ≡ Err fault)
+abbrev pub Wins : Result (Option (Of (Bor (List ℕ)))) (Of ReadFault) → Bor (List ℕ) → Bor (List ℕ) → (List ℕ → Result (Option Place) ReadFault) → Type 0
+Wins (Err (First fault)) first second place = place first.now ≡ Err fault
+Wins (Err (Second fault)) first second place = (is_ok (place first.now) ≡ true) × (place second.now ≡ Err fault)
 Wins (Ok (Some (First line))) first second place = (is_ok (place second.now) ≡ true) × (at : Place) × (place first.now ≡ Ok (Some at)) × Lies line first at
 Wins (Ok (Some (Second line))) first second place = (place first.now ≡ Ok None) × (at : Place) × (place second.now ≡ Ok (Some at)) × Lies line second at
 Wins (Ok None) first second place = (place first.now ≡ Ok None) × (place second.now ≡ Ok None)
@@ -26,7 +24,7 @@ decided count silent read p text = meant count silent (read_of read text).rules 
 
 -- the line says the first of its text's rules that holds the packet, and its decision is that of the first text over the second;
 -- where there is none, both are silent
-abbrev pub Settles : ℕ → ℕ → (List ℕ → Option ℕ) → List ℕ → List ℕ → List ℕ → Result (Option WinningLine) WinnerFault → Type 0
+abbrev pub Settles : ℕ → ℕ → (List ℕ → Option ℕ) → List ℕ → List ℕ → List ℕ → Result (Option (Of (Bor (List ℕ)))) (Of ReadFault) → Type 0
 Settles count silent read p first second (Err fault) = Unit {0}
 Settles count silent read p first second (Ok (Some (First line))) =
     (says : Says count silent read p (read_of read first).rules line.now)

@@ -7,4 +7,4 @@
 
 pub mod winning;
 
-pub use winning::{WinnerFault, WinningLine, winner};
+pub use winning::{Of, WinnerFault, WinningLine, winner};

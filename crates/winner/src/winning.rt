@@ -1,6 +1,6 @@
 // The winning line of two texts.
 ghost use Rattle.packet.specs.Packets.{values};
-ghost use Rattle.decision.specs.Kinds.{read_word};
+ghost use Rattle.text.specs.Reads.{reads};
 ghost use Rattle.text.specs.DecidingLines.{place_of};
 ghost use Rattle.winner.specs.Winners.{Wins, Settles};
 
@@ -8,19 +8,18 @@ use decision::Kind;
 use packet::Packet;
 use text::{ReadFault, deciding_line};
 
-// The line that decides, without its line feed, and the text that it is borrowed from.
-#[derive(Clone, Copy)]
-pub enum WinningLine<'a> {
-    First(&'a [u8]),
-    Second(&'a [u8]),
+// Something of the first text or of the second.
+#[derive(Clone, Copy, PartialEq, Eq, Debug)]
+pub enum Of<T> {
+    First(T),
+    Second(T),
 }
 
+// The line that decides, without its line feed, and the text that it is borrowed from.
+pub type WinningLine<'a> = Of<&'a [u8]>;
+
 // What is wrong with the first text that does not read well.
-#[derive(Clone, Copy)]
-pub enum WinnerFault {
-    First(ReadFault),
-    Second(ReadFault),
-}
+pub type WinnerFault = Of<ReadFault>;
 
 // The first text's deciding line, or where that text is silent on the packet the second's.
 pub fn winner<'a, K: Kind>(
@@ -28,17 +27,11 @@ pub fn winner<'a, K: Kind>(
     second: &'a [u8],
     packet: Packet,
 ) -> Result<Option<WinningLine<'a>>, WinnerFault>
-    ensures place { Wins result first.entry second.entry (place_of (read_word K.Kind.COUNT K.Kind.SILENT K.Kind.spelling) (values packet)) }
-    ensures decision { Settles K.Kind.COUNT K.Kind.SILENT (read_word K.Kind.COUNT K.Kind.SILENT K.Kind.spelling) (values packet) first.now second.now result }
+    ensures place { Wins result first.entry second.entry (place_of (reads K.Kind) (values packet)) }
+    ensures decision { Settles K.Kind.COUNT K.Kind.SILENT (reads K.Kind) (values packet) first.now second.now result }
 {
-    let upper = match deciding_line::<K>(first, packet) {
-        Ok(line) => line,
-        Err(fault) => return Err(WinnerFault::First(fault)),
-    };
-    let lower = match deciding_line::<K>(second, packet) {
-        Ok(line) => line,
-        Err(fault) => return Err(WinnerFault::Second(fault)),
-    };
+    let upper = deciding_line::<K>(first, packet).map_err(WinnerFault::First)?;
+    let lower = deciding_line::<K>(second, packet).map_err(WinnerFault::Second)?;
     match (upper, lower) {
         (Some(line), _) => Ok(Some(WinningLine::First(line))),
         (None, Some(line)) => Ok(Some(WinningLine::Second(line))),

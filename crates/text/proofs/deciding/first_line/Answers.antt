@@ -1,51 +1,55 @@
-use Rattle.std.proofs.Common.{◌≡◌, ◌+◌, ◌-◌, length, take, drop, sym, refl, ap, ◌∙◌, subst, arith, rules}
+use Rattle.std.proofs.Common.{◌≡◌, ◌+◌, length, Some, sym, ap, ◌∙◌, subst, arith, rules, refl}
 use Rattle.packet.specs.Packets.{values}
-use Rattle.decision.specs.Kinds.{read_word}
-use Rattle.text.specs.Pieces.{left, extent}
+use Rattle.text.specs.Reads.{reads}
+use Rattle.text.specs.Pieces.{pieces, left, LiesAt}
 use Rattle.text.specs.DecidingLines.{first_line}
-use Rattle.text.proofs.Cuts.{extent_pieces}
 use Rattle.text.proofs.Found.{Cut, cut_whole, cut_bytes, cut_within, cut_more, line_here, line_later, line_none}
 use Rattle.text.proofs.deciding.first_line.Goals as goal
 
 pub loop-line-init : goal.loop-line-init
-loop-line-init g c = (
-  omega (arith, ap extent c.new-lines.ensures, extent_pieces 10 c.args.text.now),
-  cut_whole c.args.text.now (left c.new-lines.result) c.new-lines.ensures,
-  ap (first_line (read_word g.K.Kind.COUNT g.K.Kind.SILENT g.K.Kind.spelling) (values c.args.packet) 0) (sym c.new-lines.ensures),
-)
-
-pub slice_bounds-result-end : goal.slice_bounds-result-end
-slice_bounds-result-end g c =
-    let cut = subst (Cut c.args.text.now c.loop-line.start) c.in-Some.ensures c.loop-line.invariant.1 in
-    let within = cut_within c.args.text.now c.loop-line.start c.in-Some.line.now (left c.next.new.self) cut in
-    search (rules, within)
+loop-line-init g c =
+    let lines = c.into_iter-line-iterator.result.pieces in
+    let all : left lines ≡ pieces 10 c.args.text.bytes.now = search rules in
+    let place : lines.rest ≡ Some c.args.text.bytes = search rules in (
+      0,
+      subst (LiesAt c.args.text.bytes 0) (sym place) (refl, search rules),
+      cut_whole c.args.text.bytes.now (left lines) all,
+      ap (first_line (reads g.K.Kind) (values c.args.packet) 0) (sym all),
+    )
 
 pub returns-then-line_holds : goal.returns-then-line_holds
 returns-then-line_holds g c =
-    let read = read_word g.K.Kind.COUNT g.K.Kind.SILENT g.K.Kind.spelling in
-    let now_left = c.in-Some.ensures in
-    let cut = subst (Cut c.args.text.now c.loop-line.start) now_left c.loop-line.invariant.1 in
-    let within = cut_within c.args.text.now c.loop-line.start c.in-Some.line.now (left c.next.new.self) cut in
-    let bytes = cut_bytes c.args.text.now c.loop-line.start c.in-Some.line.now (left c.next.new.self) cut in
-    let part = ap (λ n. take n (drop c.loop-line.start c.args.text.now)) (let e : c.loop-line.start + length c.in-Some.line.now - c.loop-line.start ≡ length c.in-Some.line.now = omega arith in e) in (
-      record { start = c.loop-line.start; line = c.in-Some.line.now },
-      c.loop-line.invariant.2 ∙ ap (first_line read (values c.args.packet) c.loop-line.start) now_left
-          ∙ line_here read (values c.args.packet) c.loop-line.start c.in-Some.line.now (left c.next.new.self) c.if-line_holds.ensures,
-      record { block = refl; offset = search rules; bytes = part ∙ sym bytes; of_text = part; within = within },
+    let read = reads g.K.Kind in
+    let text = c.args.text.bytes in
+    let line = c.in-Some.line.bytes in
+    let start = c.loop-line.invariant.0 in
+    let taken = c.in-Some.ensures.steps.0 in
+    let cut = subst (Cut text.now start) taken.first c.loop-line.invariant.2 in
+    let bytes = cut_bytes text.now start line.now (left c.next.new.self.pieces) cut in
+    let lies = (taken.lies text start c.loop-line.invariant.1).0 in (
+      record { start = start; line = line.now },
+      c.loop-line.invariant.3 ∙ ap (first_line read (values c.args.packet) start) taken.first
+          ∙ line_here read (values c.args.packet) start line.now (left c.next.new.self.pieces) c.if-line_holds.ensures,
+      record { block = lies.0; offset = lies.1; bytes = refl; of_text = bytes; within = cut_within text.now start line.now (left c.next.new.self.pieces) cut },
     )
 
 pub loop-line-preserved : goal.loop-line-preserved
 loop-line-preserved g c =
-    let read = read_word g.K.Kind.COUNT g.K.Kind.SILENT g.K.Kind.spelling in
-    let now_left = c.in-Some.ensures in
-    let cut = subst (Cut c.args.text.now c.loop-line.start) now_left c.loop-line.invariant.1 in (
-      omega (arith, ap extent now_left, c.loop-line.invariant.0),
-      cut_more c.args.text.now c.loop-line.start c.in-Some.line.now (left c.next.new.self) cut,
-      c.loop-line.invariant.2 ∙ ap (first_line read (values c.args.packet) c.loop-line.start) now_left
-          ∙ line_later read (values c.args.packet) c.loop-line.start c.in-Some.line.now (left c.next.new.self) c.if-line_holds.ensures,
+    let read = reads g.K.Kind in
+    let text = c.args.text.bytes in
+    let line = c.in-Some.line.bytes in
+    let start = c.loop-line.invariant.0 in
+    let taken = c.in-Some.ensures.steps.0 in
+    let cut = subst (Cut text.now start) taken.first c.loop-line.invariant.2 in (
+      start + length line.now + 1,
+      (taken.lies text start c.loop-line.invariant.1).1,
+      cut_more text.now start line.now (left c.next.new.self.pieces) cut,
+      c.loop-line.invariant.3 ∙ ap (first_line read (values c.args.packet) start) taken.first
+          ∙ line_later read (values c.args.packet) start line.now (left c.next.new.self.pieces) c.if-line_holds.ensures,
     )
 
 pub returns : goal.returns
 returns g c =
-    let read = read_word g.K.Kind.COUNT g.K.Kind.SILENT g.K.Kind.spelling in
-    c.loop-line.invariant.2 ∙ ap (first_line read (values c.args.packet) c.loop-line.start) c.in_default.ensures.0 ∙ line_none read (values c.args.packet) c.loop-line.start
+    let read = reads g.K.Kind in
+    let start = c.loop-line.invariant.0 in
+    c.loop-line.invariant.3 ∙ ap (first_line read (values c.args.packet) start) c.in-None.ensures.steps.0 ∙ line_none read (values c.args.packet) start

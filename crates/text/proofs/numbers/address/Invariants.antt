@@ -3,5 +3,5 @@ use Rattle.text.specs.Pieces.{left}
 use Rattle.text.specs.Numbers.{address_of, bytes_from}
 use Rattle.text.proofs.numbers.address.Given as goal
 
-abbrev pub invariant-loop-index : goal.invariant-loop-index
-invariant-loop-index l = (l.value < 256 ^ l._index) × (address_of l.word ≡ bytes_from (4 - l._index) l.value (left l.parts))
+abbrev pub invariant-loop : goal.invariant-loop
+invariant-loop l = (l.value < 256 ^ l.counter) × (address_of l.word ≡ bytes_from (4 - l.counter) l.value (left l.parts))

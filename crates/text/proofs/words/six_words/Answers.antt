@@ -6,29 +6,29 @@ use Rattle.text.proofs.words.six_words.Goals as goal
 
 pub returns-in_default : goal.returns-in_default
 returns-in_default c =
-    sym (c.loop-index.invariant ∙ ap (words_from (length c.args.line.now + 1) (6 - c.loop-index._index) c.loop-index.words.column) c.in_default.ensures.0
-    ∙ words_few _ _ _ c.loop-index-test.true)
+    sym (c.loop.invariant ∙ ap (words_from (length c.args.line.bytes.now + 1) (6 - c.loop.counter) c.loop.words.column) c.in_default.ensures.steps.0
+    ∙ words_few _ _ _ c.loop-test.true)
 
 pub returns-then-is_empty : goal.returns-then-is_empty
 returns-then-is_empty c =
-    let taken = c.in-Some.ensures in
+    let taken = c.in-Some.ensures.steps in
     let at = c.column.ensures ∙ stands_column _ _ _ taken.stands in
-    let empty = words_empty (length c.args.line.now + 1) c.loop-index.words.column c.loop-index._index c.loop-index-test.true _ _ (c.if-is_empty.ensures ∙ ap (λ w. eqb (length w) 0) c.text.ensures) in
-    sym (c.loop-index.invariant ∙ ap (words_from _ _ _) taken.words_are ∙ empty ∙ ap (λ n. Err (Words n)) (sym at))
+    let empty = words_empty (length c.args.line.bytes.now + 1) c.loop.words.column c.loop.counter c.loop-test.true _ _ (c.if-is_empty.ensures ∙ ap (λ w. eqb (length w) 0) c.text.ensures) in
+    sym (c.loop.invariant ∙ ap (words_from _ _ _) taken.words_are ∙ empty ∙ ap (λ n. Err (Words n)) (sym at))
 
-pub loop-index-preserved : goal.loop-index-preserved
-loop-index-preserved c =
-    let taken = c.in-Some.ensures in
-    let more = words_more (length c.args.line.now + 1) c.loop-index.words.column c.loop-index._index c.loop-index-test.true _ _ _ (c.if-is_empty.ensures ∙ ap (λ w. eqb (length w) 0) c.text.ensures) taken.moved in
-    c.loop-index.invariant ∙ ap (words_from _ _ _) taken.words_are ∙ more
+pub loop-preserved : goal.loop-preserved
+loop-preserved c =
+    let taken = c.in-Some.ensures.steps in
+    let more = words_more (length c.args.line.bytes.now + 1) c.loop.words.column c.loop.counter c.loop-test.true _ _ _ (c.if-is_empty.ensures ∙ ap (λ w. eqb (length w) 0) c.text.ensures) taken.moved in
+    c.loop.invariant ∙ ap (words_from _ _ _) taken.words_are ∙ more
 
 pub returns-in-None : goal.returns-in-None
 returns-in-None c =
-    sym (c.loop-index.invariant ∙ ap (words_from (length c.args.line.now + 1) (6 - c.loop-index._index) c.loop-index.words.column) c.in-None.ensures.0
-    ∙ words_six _ _ _ c.loop-index-test.false)
+    sym (c.loop.invariant ∙ ap (words_from (length c.args.line.bytes.now + 1) (6 - c.loop.counter) c.loop.words.column) c.in-None.ensures.steps.0
+    ∙ words_six _ _ _ c.loop-test.false)
 
 pub returns-in-Some-next : goal.returns-in-Some-next
 returns-in-Some-next c =
-    let taken = c.in-Some-next.ensures in
+    let taken = c.in-Some-next.ensures.steps in
     let at = c.column-in-Some-next.ensures ∙ stands_column _ _ _ taken.stands in
-    sym (c.loop-index.invariant ∙ ap (words_from _ _ _) taken.words_are ∙ words_many _ _ _ c.loop-index-test.false _ _ ∙ ap (λ n. Err (Words n)) (sym at))
+    sym (c.loop.invariant ∙ ap (words_from _ _ _) taken.words_are ∙ words_many _ _ _ c.loop-test.false _ _ ∙ ap (λ n. Err (Words n)) (sym at))

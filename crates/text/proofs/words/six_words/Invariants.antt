@@ -3,5 +3,5 @@ use Rattle.text.specs.Pieces.{left}
 use Rattle.text.specs.Words.{words_of, words_from}
 use Rattle.text.proofs.words.six_words.Given as goal
 
-abbrev pub invariant-loop-index : goal.invariant-loop-index
-invariant-loop-index l = words_of l.line ≡ words_from (length l.line + 1) (6 - l._index) l.words.column (left l.words.words)
+abbrev pub invariant-loop : goal.invariant-loop
+invariant-loop l = words_of l.line.bytes.now ≡ words_from (length l.line.bytes.now + 1) (6 - l.counter) l.words.column (left l.words.words)
