@@ -58,7 +58,8 @@ read_any (suc w) n =
 pub read_written : (w n : ℕ) → n < 256 ^ w → number_of (big_endian w n) ≡ n
 read_written w n h = read_any w n ∙ mod-eq_of_lt h
 
-below_length : (bs : List ℕ) → Bytes bs → number_of bs < 256 ^ length bs
+-- so many bytes stand for a number below the power
+pub below_length : (bs : List ℕ) → Bytes bs → number_of bs < 256 ^ length bs
 below_length [] h = omega arith
 below_length (b ∷ bs) h = subst (λ (x : ℕ). b * 256 ^ length bs + number_of bs < x) (sym (pow_more (length bs)))
     (digits_lt (h 0 (omega arith)) (below_length bs (λ k l. h (suc k) (omega arith))))
