@@ -3,7 +3,7 @@ use Rattle.std.proofs.Common.{◌≡◌, ℕ, zero, suc, ◌+◌, ◌*◌, ◌/�
 use native.Mathlib.Nat.{mod-one, add-mul-div_right, add-mul-mod_self_right, one-le-pow}
 use lib.Arith.{digits_lt, digits_div, mod-mul}
 use Rattle.std.specs.List.{flat_map}
-use Rattle.std.proofs.lemmas.List.{length_push, length-take, length-drop, length-replicate, get_or-take, get_or-drop, get_or-replicate}
+use Rattle.std.proofs.lemmas.List.{length_push, take_more, length-take, length-drop, length-replicate, get_or-take, get_or-drop, get_or-replicate}
 use Rattle.std.proofs.lemmas.Nat.{mul-le}
 use Rattle.blocks.specs.Numbers.{big_endian, number_of, Bytes}
 use Rattle.blocks.specs.Writing.{sum_from, check_sum}
@@ -58,7 +58,8 @@ read_any (suc w) n =
 pub read_written : (w n : ℕ) → n < 256 ^ w → number_of (big_endian w n) ≡ n
 read_written w n h = read_any w n ∙ mod-eq_of_lt h
 
-below_length : (bs : List ℕ) → Bytes bs → number_of bs < 256 ^ length bs
+-- so many bytes stand for a number below the power
+pub below_length : (bs : List ℕ) → Bytes bs → number_of bs < 256 ^ length bs
 below_length [] h = omega arith
 below_length (b ∷ bs) h = subst (λ (x : ℕ). b * 256 ^ length bs + number_of bs < x) (sym (pow_more (length bs)))
     (digits_lt (h 0 (omega arith)) (below_length bs (λ k l. h (suc k) (omega arith))))
@@ -115,3 +116,10 @@ pub check_below : (bs : List ℕ) → length bs ≤ 508 → Bytes bs → check_s
 check_below bs l h =
     let m : length bs * (255 * (1 + length bs)) ≤ 508 * (255 * 509) = mul-le (length bs) (255 * (1 + length bs)) 508 (255 * 509) l (omega arith) in
     omega (arith, sum_below 1 bs h)
+
+-- one byte more: the sum goes on by it, and still fits 4 bytes
+pub check_more : (bs : List ℕ) (i : ℕ) → i < length bs → check_sum (take (i + 1) bs) ≡ check_sum (take i bs) + get_or bs i 0 * (i + 1)
+check_more bs i h =
+    let more = ap check_sum (take_more bs i 0 h) ∙ sum_more 1 (take i bs) (get_or bs i 0) in
+    let place : 1 + length (take i bs) ≡ i + 1 = omega (arith, length-take i bs) in
+    more ∙ ap (λ n. check_sum (take i bs) + get_or bs i 0 * n) place

@@ -9,9 +9,10 @@ pub const BODY_BYTES: usize = 508;
 pub fn check_sum(block: &[u8]) -> u32
     ensures { result ≡ check_sum (take 508 block.now) }
 {
+    let body = &block[..BODY_BYTES.min(block.len())];
     let mut sum = 0;
-    for index in 0..block.len().min(BODY_BYTES) {
-        sum += u32::from(block[index]) * (index as u32 + 1);
+    for (index, byte) in body.iter().enumerate() {
+        sum += u32::from(*byte) * (index as u32 + 1);
     }
     sum
 }

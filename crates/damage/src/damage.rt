@@ -1,6 +1,9 @@
 // What is wrong with packed bytes.
-ghost use Rattle.std.specs.Prelude.{◌≡◌};
-ghost use Rattle.damage.specs.Refusals.{damage_number, damage_place};
+ghost use Rattle.std.specs.Prelude.{◌≡◌, Some};
+ghost use Rattle.damage.specs.Refusals.{damage_number, damage_place, damage_text};
+
+use std::error::Error;
+use std::fmt;
 
 // The first damage in the order of the cases: length; then, block by block, check, frame and foreign row; then nesting; then
 // neighbours.
@@ -46,3 +49,15 @@ impl Damage {
         }
     }
 }
+
+impl fmt::Display for Damage {
+    ghost output = { λ damage. Some (damage_text damage) };
+
+    fn fmt<W: fmt::Write>(&self, f: &mut fmt::Formatter<W>) -> fmt::Result {
+        let number = self.number();
+        let place = self.place();
+        write!(f, "refused {number} place {place}")
+    }
+}
+
+impl Error for Damage {}

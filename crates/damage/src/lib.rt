@@ -1,7 +1,7 @@
 // What can be wrong with packed bytes, and why they are not opened.
 //
-// `Damage` has the refusals 11 to 16 with their places; when each is answered stands in crate opening's specs/Damages.antt. Rests
-// on nothing.
+// `Damage` has the refusals 11 to 16 with their places, and is printed by both; when each is answered stands in crate opening's
+// specs/Damages.antt. Rests on nothing.
 #![tactic(auto)]
 
 pub mod damage;

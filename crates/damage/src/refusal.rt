@@ -1,10 +1,12 @@
 // Why bytes are not opened.
-ghost use Rattle.std.specs.Prelude.{◌≡◌};
+ghost use Rattle.std.specs.Prelude.{◌≡◌, Some};
 ghost use Rattle.damage.specs.declared.refusal.OpenRefusal.TheVariants.{Damaged, Memory};
-ghost use Rattle.damage.specs.Refusals.{refusal_number, refusal_place};
+ghost use Rattle.damage.specs.Refusals.{refusal_number, refusal_place, refusal_text};
 
 use crate::damage::Damage;
 use std::alloc::AllocError;
+use std::error::Error;
+use std::fmt;
 
 #[derive(Clone, Copy, PartialEq, Eq, Debug)]
 pub enum OpenRefusal {
@@ -51,3 +53,16 @@ impl From<AllocError> for OpenRefusal {
         Self::Memory
     }
 }
+
+impl fmt::Display for OpenRefusal {
+    ghost output = { λ refusal. Some (refusal_text refusal) };
+
+    fn fmt<W: fmt::Write>(&self, f: &mut fmt::Formatter<W>) -> fmt::Result {
+        match self {
+            OpenRefusal::Damaged(damage) => write!(f, "{damage}"),
+            OpenRefusal::Memory => write!(f, "out of memory"),
+        }
+    }
+}
+
+impl Error for OpenRefusal {}

@@ -1,6 +1,7 @@
-pub mod Scans
+pub mod Chunks
+pub mod Tests
 pub mod Follows
-pub mod Walk
 pub mod Found
 pub mod Begun
+pub mod Walk
 pub mod Inspected

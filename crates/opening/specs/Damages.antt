@@ -45,9 +45,13 @@ all_zero (b ∷ bytes) = b == 0 && all_zero bytes
 abbrev pub framed : List ℕ → ℕ → Bool
 framed bytes k = is_count (nat_le (blocks_in bytes) (suc k)) (count_in (block_at bytes k)) && number_in (block_at bytes k) == k && all_zero (unused_in (block_at bytes k))
 
--- has the row at a place another kind's number, or a decision that is none of the kind's?
+-- has the row another kind's number, or a decision that is none of the kind's?
+abbrev pub foreign_row : ℕ → ℕ → List ℕ → Bool
+foreign_row label size row = not (kind_of row == label) || not (nat_lt (row_of row).decision size)
+
+-- has the row at a place?
 abbrev pub foreign : ℕ → ℕ → List ℕ → ℕ → Bool
-foreign label size bytes i = not (kind_of (row_slice bytes i) == label) || not (nat_lt (row_of (row_slice bytes i)).decision size)
+foreign label size bytes i = foreign_row label size (row_slice bytes i)
 
 -- the first damage of a block
 unfoldable pub block_damage : ℕ → ℕ → List ℕ → ℕ → Option Damage

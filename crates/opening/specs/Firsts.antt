@@ -1,6 +1,6 @@
 -- The first damage at a place: where there is none, and where one is found. Assumes nothing.
 use Rattle.std.specs.Prelude.{◌≡◌, ℕ, zero, suc, ◌+◌, ◌<◌, Bool, true, false, ◌⊎◌, Some, None, Option, ◌≢◌, refl}
-use Rattle.std.proofs.Common.{sym, ap, ◌∙◌, inl, inr, add-one, arith}
+use Rattle.std.proofs.Common.{sym, ap, ap₂, ◌∙◌, inl, inr, add-one, arith}
 use Rattle.std.proofs.lemmas.Bool.{cases_order}
 use Rattle.damage.specs.declared.damage.Damage.{Damage}
 use Rattle.opening.specs.Damages.{found, or_else, first}
@@ -65,6 +65,12 @@ pub none_first : (n : ℕ) (at : ℕ → Option Damage) → ((k : ℕ) → k < n
 unfolding first
 none_first zero at h = refl
 none_first (suc n) at h = none_or _ _ (none_first n at (λ k l. h k (omega arith))) (h n (omega arith))
+
+-- the first damage of two that agree at each place
+pub first_same : (n : ℕ) (at by : ℕ → Option Damage) → ((k : ℕ) → k < n → at k ≡ by k) → first n at ≡ first n by
+unfolding first
+first_same zero at by h = refl
+first_same (suc n) at by h = ap₂ or_else (first_same n at by (λ k l. h k (omega arith))) (h n (omega arith))
 
 -- damage before which there is none is the first
 pub first_found : (n : ℕ) (at : ℕ → Option Damage) (k : ℕ) (d : Damage) → k < n → first k at ≡ None → at k ≡ Some d → first n at ≡ Some d

@@ -1,11 +1,13 @@
 // The tests of one block.
-ghost use Rattle.std.specs.Prelude.{◌≡◌, ◌+◌, ◌*◌, ◌/◌, ◌<◌, ◌≤◌, true, ◌&&◌, length, ◌==◌};
-ghost use Rattle.blocks.specs.Reading.{block_at, count_in, number_in, unused_in};
+ghost use Rattle.std.specs.Prelude.{◌≡◌, ◌+◌, ◌*◌, ◌/◌, ◌<◌, ◌≤◌, true, false, ◌&&◌, length, take, drop, ◌==◌, MatchOption};
+ghost use Rattle.std.specs.List.{list_all, position};
+ghost use Rattle.blocks.specs.Reading.{count_in, number_in, unused_in};
 ghost use Rattle.opening.specs.Answers.{unless};
-ghost use Rattle.opening.specs.Damages.{is_count, all_zero, foreign, found, first, block_damage};
+ghost use Rattle.opening.specs.Damages.{is_count, all_zero, foreign_row, found, first, block_damage};
 ghost use Rattle.damage.specs.declared.damage.Damage.TheVariants.{Foreign};
 
-use crate::reading::{DECISION, FIRST_ROW, KIND, number_at, row_at};
+use crate::reading::{DECISION, KIND, number_of};
+use crate::rows::{FIRST_ROW, block_at, places_in};
 use blocks::check::BODY_BYTES;
 use blocks::{BLOCK_BYTES, BLOCK_ROWS, ROW_BYTES, check_sum};
 use damage::Damage;
@@ -17,36 +19,30 @@ pub(crate) fn check_block<K: Kind>(bytes: &[u8], number: usize) -> Result<(), Da
     ensures { result ≡ unless (block_damage K.Kind.NUMBER K.Kind.COUNT bytes.now number) tt }
 {
     let block = block_at(bytes, number);
-    if number_at(block, BODY_BYTES, 4) != check_sum(block) {
+    if number_of(&block[BODY_BYTES..BLOCK_BYTES]) != check_sum(block) {
         return Err(Damage::Check(number));
     }
-    let count = number_at(block, 0, 2) as usize;
     let is_last = number + 1 >= bytes.len() / BLOCK_BYTES;
-    if !is_framed(block, number, count, is_last) {
+    let Some(count) = framed_count(block, number, is_last) else {
         return Err(Damage::Frame(number));
-    }
-    check_rows::<K>(bytes, BLOCK_ROWS * number, count)
+    };
+    check_rows::<K>(block, BLOCK_ROWS * number, count)
 }
 
-// The block with a number.
-pub(crate) fn block_at(bytes: &[u8], number: usize) -> &[u8]
-    requires { number < length bytes.now / 512 }
-    ensures value { result.now ≡ block_at bytes.now number }
-    ensures len { length result.now ≡ 512 }
+// The block's count of rows, if this and its number are right, and its unused bytes 0.
+#[tactic(auto, using(crate::proofs::Tests::zero_is))]
+fn framed_count(block: &[u8; BLOCK_BYTES], number: usize, is_last: bool) -> Option<usize>
+    ensures { MatchOption result ((is_count is_last (count_in block.now) && number_in block.now == number && all_zero (unused_in block.now)) ≡ false) (λ count. (count ≡ count_in block.now) × (count ≤ 18) × ((is_count is_last (count_in block.now) && number_in block.now == number && all_zero (unused_in block.now)) ≡ true)) }
 {
-    let start = BLOCK_BYTES * number;
-    &bytes[start..start + BLOCK_BYTES]
-}
-
-// Are the block's count and number right, and its unused bytes 0?
-fn is_framed(block: &[u8], number: usize, count: usize, is_last: bool) -> bool
-    requires { (length block.now ≡ 512) × (count ≡ count_in block.now) }
-    ensures value { result ≡ (is_count is_last count && number_in block.now == number && all_zero (unused_in block.now)) }
-    ensures bound { result ≡ true → count ≤ 18 }
-{
-    is_count(count, is_last)
-        && number_at(block, 2, 2) as usize == number
+    let count = number_of(&block[..2]) as usize;
+    if is_count(count, is_last)
+        && number_of(&block[2..4]) as usize == number
         && is_zero(&block[FIRST_ROW + ROW_BYTES * count..BODY_BYTES])
+    {
+        Some(count)
+    } else {
+        None
+    }
 }
 
 // May a block have so many rows?
@@ -63,26 +59,32 @@ fn is_count(count: usize, is_last: bool) -> bool
 
 // Is every byte 0?
 fn is_zero(bytes: &[u8]) -> bool
-    ensures { result ≡ all_zero bytes.now }
+    ensures { result ≡ list_all (λ b. b == 0) bytes.now }
 {
-    for byte in bytes {
-        if *byte != 0 {
-            return false;
-        }
-    }
-    true
+    bytes.iter().all(|byte| *byte == 0)
 }
 
-// The first of `count` rows from `start` on that has another kind's number, or a decision that is none of the kind's.
-fn check_rows<K: Kind>(bytes: &[u8], start: usize, count: usize) -> Result<(), Damage>
-    requires { (start + count ≤ 18 * (length bytes.now / 512)) × (length bytes.now ≤ 32768) }
-    ensures { result ≡ unless (first count (λ j. found (foreign K.Kind.NUMBER K.Kind.COUNT bytes.now (start + j)) (Foreign (start + j)))) tt }
+// Has the row another kind's number, or a decision that is none of the kind's?
+fn is_foreign<K: Kind>(row: &[u8; ROW_BYTES]) -> bool
+    ensures { result ≡ foreign_row K.Kind.NUMBER K.Kind.COUNT row.now }
 {
-    for j in 0..count {
-        let row = row_at(bytes, start + j);
-        if row[KIND] != K::NUMBER || row[DECISION] >= K::COUNT {
-            return Err(Damage::Foreign(start + j));
-        }
+    row[KIND] != K::NUMBER || row[DECISION] >= K::COUNT
+}
+
+// The place of the first that is.
+fn first_foreign<K: Kind>(rows: &[[u8; ROW_BYTES]]) -> Option<usize>
+    ensures { result ≡ position (foreign_row K.Kind.NUMBER K.Kind.COUNT) rows.now }
+{
+    rows.iter().position(|row| is_foreign::<K>(row))
+}
+
+// The first foreign one of a block's `count` rows; `start` is the place of the first of them in the table.
+fn check_rows<K: Kind>(block: &[u8; BLOCK_BYTES], start: usize, count: usize) -> Result<(), Damage>
+    requires { (count ≤ 18) × (start ≤ 1152) }
+    ensures { result ≡ unless (first count (λ j. found (foreign_row K.Kind.NUMBER K.Kind.COUNT (take 28 (drop (4 + 28 * j) block.now))) (Foreign (start + j)))) tt }
+{
+    match first_foreign::<K>(&places_in(block)[..count]) {
+        Some(j) => Err(Damage::Foreign(start + j)),
+        None => Ok(()),
     }
-    Ok(())
 }

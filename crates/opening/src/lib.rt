@@ -12,6 +12,7 @@ pub mod inspection;
 mod nesting;
 pub mod packed_table;
 mod reading;
+mod rows;
 mod search;
 
 pub use inspection::{decide_packed, inspect};

@@ -1,65 +1,76 @@
 // The row that holds a packet.
-ghost use Rattle.std.specs.Prelude.{◌≡◌, ◌<◌, length};
-ghost use Rattle.packet.specs.Packets.{tops, Within};
-ghost use Rattle.packet.specs.Regions.{range_at};
+ghost use Rattle.std.specs.Prelude.{◌≡◌, ◌<◌, true, not};
+ghost use Rattle.std.specs.List.{find, zip};
+ghost use Rattle.packet.specs.Packets.{values, tops, place};
+ghost use Rattle.packet.specs.Regions.{inside, range_at};
+ghost use Rattle.theory.specs.Steps.{passes};
 ghost use Rattle.theory.specs.Tables.{lookup};
 ghost use Rattle.theory.specs.Holding.{held, before};
 ghost use Rattle.blocks.specs.Writing.{widths};
 ghost use Rattle.blocks.specs.Reading.{ranges_of, row_of, row_slice, rows_in};
-ghost use Rattle.opening.specs.Searching.{HoldsNested};
 
-use crate::reading::{DECISION, ranges_at, row_at};
-use packet::Range;
+use crate::reading::DECISION;
+use crate::rows::Rows;
+use packet::{Field, Packet, Range};
 
-// The place of the row that holds the packet, halving the rows that are left at each step: a packet comes before exactly the
-// rows behind its own.
-fn row_holding(bytes: &[u8], rows: usize, packet: &[u32]) -> usize
-    requires { (HoldsNested bytes.now rows) × (Within tops packet.now) }
-    ensures bound { result < rows }
-    ensures ranges { ranges_of widths (row_slice bytes.now result) ≡ held (rows_in bytes.now) packet.now }
-    ensures decision { (row_of (row_slice bytes.now result)).decision ≡ lookup (rows_in bytes.now) packet.now }
-{
-    let mut low = 0;
-    let mut high = rows;
-    while high - low > 1 {
-        let middle = low + (high - low) / 2;
-        if is_before(&ranges_at(bytes, middle), packet) {
-            high = middle;
-        } else {
-            low = middle;
+// Rows that are nested.
+#[derive(Clone, Copy)]
+pub(crate) struct Nested<'a> {
+    pub(crate) rows: Rows<'a>,
+    ghost nested: { passes tops (rows_in rows.bytes.now) ≡ true },
+}
+
+impl Nested<'_> {
+    // The place of the row that holds the packet, halving the rows that are left at each step: a packet comes before exactly the
+    // rows behind its own. The rows stand 18 to a block, with other bytes between, so that no slice has them all.
+    fn holding(&self, packet: Packet) -> usize
+        ensures bound { result < self.now.rows.count }
+        ensures ranges { ranges_of widths (row_slice self.now.rows.bytes.now result) ≡ held (rows_in self.now.rows.bytes.now) (values packet) }
+        ensures decision { (row_of (row_slice self.now.rows.bytes.now result)).decision ≡ lookup (rows_in self.now.rows.bytes.now) (values packet) }
+    {
+        let mut low = 0;
+        let mut high = self.rows.count;
+        while high - low > 1 {
+            let middle = low + (high - low) / 2;
+            if is_before(&self.rows.ranges(middle), packet) {
+                high = middle;
+            } else {
+                low = middle;
+            }
         }
+        low
     }
-    low
+
+    // Its decision.
+    pub(crate) fn decision(&self, packet: Packet) -> u8
+        ensures { result ≡ lookup (rows_in self.now.rows.bytes.now) (values packet) }
+    {
+        self.rows.row(self.holding(packet))[DECISION]
+    }
+
+    // Where its range on the field ends.
+    pub(crate) fn end(&self, field: Field, packet: Packet) -> u32
+        ensures { result ≡ (range_at (held (rows_in self.now.rows.bytes.now) (values packet)) (place field)).high }
+    {
+        self.rows.ranges(self.holding(packet))[field.index()].high
+    }
 }
 
 // Does the packet come before the ranges? On the first field whose range does not hold its value, the value is below the range.
-fn is_before(ranges: &[Range<u32>], packet: &[u32]) -> bool
-    requires { length ranges.now ≡ length packet.now }
-    ensures { result ≡ before ranges.now packet.now }
+fn is_before(ranges: &[Range<u32>; Field::COUNT], packet: Packet) -> bool
+    ensures { result ≡ before ranges.now (values packet) }
 {
-    for field in 0..ranges.len() {
-        if packet[field] < ranges[field].low {
-            return true;
-        }
-        if packet[field] > ranges[field].high {
-            return false;
-        }
+    match first_missed(ranges, packet) {
+        Some((range, value)) => value < range.low,
+        None => false,
     }
-    false
 }
 
-// The decision of the row that holds the packet.
-pub(crate) fn row_decision(bytes: &[u8], rows: usize, packet: &[u32]) -> u8
-    requires { (HoldsNested bytes.now rows) × (Within tops packet.now) }
-    ensures { result ≡ lookup (rows_in bytes.now) packet.now }
+// The first range that does not hold the packet's value, and this value.
+fn first_missed(ranges: &[Range<u32>; Field::COUNT], packet: Packet) -> Option<(Range<u32>, u32)>
+    ensures { result ≡ find (λ p. not (inside p.0 p.1)) (zip ranges.now (values packet)) }
 {
-    row_at(bytes, row_holding(bytes, rows, packet))[DECISION]
-}
-
-// Where the range of the row that holds the packet ends, on the field at the index.
-pub(crate) fn row_end(bytes: &[u8], rows: usize, index: usize, packet: &[u32]) -> u32
-    requires { (HoldsNested bytes.now rows) × ((Within tops packet.now) × (index < length tops)) }
-    ensures { result ≡ (range_at (held (rows_in bytes.now) packet.now) index).high }
-{
-    ranges_at(bytes, row_holding(bytes, rows, packet))[index].high
+    let values = packet.to_array();
+    let mut pairs = ranges.iter().copied().zip(values.iter().copied());
+    pairs.find(|(range, value)| !range.contains(*value))
 }

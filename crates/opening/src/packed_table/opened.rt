@@ -3,8 +3,10 @@ ghost use Rattle.std.specs.Prelude.{◌≡◌};
 ghost use Rattle.blocks.specs.Reading.{row_count};
 ghost use Rattle.opening.specs.Opened.{bytes_of, Opens, DecidesAsPacked, PacksToItself};
 
-use crate::inspection::inspect;
+use crate::inspection::whole_table;
 use crate::packed_table::Table;
+use crate::rows::Rows;
+use crate::search::Nested;
 use damage::OpenRefusal;
 use decision::Kind;
 use std::alloc::Global;
@@ -17,13 +19,25 @@ impl<K: Kind> Table<K> {
         ensures decides { DecidesAsPacked K.Kind.NUMBER K.Kind.COUNT K.Kind.SILENT bytes.now result }
         ensures packs_back { PacksToItself K.Kind.NUMBER K.Kind.COUNT K.Kind.SILENT bytes.now result }
     {
-        let rows = inspect::<K>(bytes)?;
+        let rows = whole_table::<K>(bytes)?.rows.count;
         let bytes = Vec::from_slice(heap, bytes)?;
         Ok(Table {
             bytes,
             rows,
             kind: PhantomData,
         })
+    }
+
+    // Its rows, which are nested.
+    pub(crate) fn nested(&self) -> Nested<'_>
+        ensures { result.rows.bytes.now ≡ bytes_of self.now }
+    {
+        Nested {
+            rows: Rows {
+                bytes: &self.bytes,
+                count: self.rows,
+            },
+        }
     }
 
     // The count of its rows.

@@ -5,7 +5,6 @@ ghost use Rattle.opening.specs.Tables.{range_end_edge};
 ghost use Rattle.decision.specs.Tested.{known_of_kind};
 
 use crate::packed_table::Table;
-use crate::search::{row_decision, row_end};
 use decision::Kind;
 use packet::{Field, Packet};
 use policy::Source;
@@ -20,15 +19,10 @@ impl<K: Kind> Source<K> for Table<K> {
     ghost sound = { λ s f p r few w h. range_end_edge K.Kind.COUNT K.Kind.SILENT (bytes_of s) s.nested f p r few w h };
 
     fn decide(&self, packet: &Packet) -> u8 {
-        K::or_silent(row_decision(self.bytes.as_slice(), self.rows, &packet.to_array()))
+        K::or_silent(self.nested().decision(*packet))
     }
 
     fn edge(&self, field: Field, packet: &Packet) -> u32 {
-        row_end(
-            self.bytes.as_slice(),
-            self.rows,
-            field.index(),
-            &packet.to_array(),
-        )
+        self.nested().end(field, *packet)
     }
 }

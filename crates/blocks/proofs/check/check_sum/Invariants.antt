@@ -1,7 +1,6 @@
-use Rattle.std.proofs.Common.{◌≡◌, ◌*◌, ◌≤◌, take}
+use Rattle.std.proofs.Common.{◌≡◌, take}
 use Rattle.blocks.specs.Writing.{check_sum}
 use Rattle.blocks.proofs.check.check_sum.Given as goal
 
--- no byte adds more than 255 * 508
 abbrev pub invariant-loop-index : goal.invariant-loop-index
-invariant-loop-index l = (l.sum ≡ check_sum (take l.index l.block)) × (l.sum ≤ l.index * 129540)
+invariant-loop-index l = l.sum ≡ check_sum (take l.index l.body)

@@ -7,4 +7,4 @@ use Rattle.opening.specs.Damages.{found, first}
 use Rattle.opening.proofs.alike.check_neighbours.Given as goal
 
 abbrev pub invariant-loop-row : goal.invariant-loop-row
-invariant-loop-row l = first l.row (λ i. found (starts_alike tops (rows_in l.bytes) i) (NotReduced i)) ≡ None
+invariant-loop-row l = first l.row (λ i. found (starts_alike tops (rows_in l.nested.rows.bytes.now) i) (NotReduced i)) ≡ None

@@ -1,28 +1,18 @@
-use Rattle.std.proofs.Common.{sym, ◌∙◌}
-use Rattle.std.proofs.lemmas.Bool.{lt-ltb, le-ltb, le-leb, lt-leb}
+use Rattle.std.proofs.Common.{◌≡◌, ℕ, Bool, not, false, ltb, List, length, Some, None, Option, MatchOption, refl}
+use Rattle.std.specs.List.{find, zip}
+use Rattle.packet.specs.declared.range.Range.{Range}
+use Rattle.packet.specs.Packets.{values}
+use Rattle.packet.specs.Regions.{inside}
 use Rattle.theory.specs.Holding.{before}
-use Rattle.opening.proofs.Scans.{both_more, both_all}
+use Rattle.opening.proofs.Tests.{before_is}
 use Rattle.opening.proofs.search.is_before.Goals as goal
 
-pub returns-then-packet-field : goal.returns-then-packet-field
-returns-then-packet-field c =
-    let more = both_more before c.args.ranges.now c.args.packet.now c.requires c.loop-field.field (record { low = 0; high = 0 }) 0 c.loop-field-test.true in
-    let low = lt-ltb _ _ c.if-packet-field.true in
-    sym (c.loop-field.invariant ∙ more ∙ rw low)
+-- the first range that does not hold its value tells
+tells : (rs : List (Range ℕ)) (p : List ℕ) → length rs ≡ length p → (o : Option (Range ℕ × ℕ)) → o ≡ find (λ x. not (inside x.0 x.1)) (zip rs p) → (t : Bool) → MatchOption o (t ≡ false) (λ x. t ≡ ltb x.1 x.0.low) → t ≡ before rs p
+tells rs p e o is t m = before_is rs p t e (rw is at m)
 
-pub returns-then-packet-field-2 : goal.returns-then-packet-field-2
-returns-then-packet-field-2 c =
-    let more = both_more before c.args.ranges.now c.args.packet.now c.requires c.loop-field.field (record { low = 0; high = 0 }) 0 c.loop-field-test.true in
-    let low = le-ltb _ _ c.if-packet-field.false in
-    let high = lt-leb _ _ c.if-packet-field-2.true in
-    sym (c.loop-field.invariant ∙ more ∙ rw (low, high))
+pub returns-in-Some : goal.returns-in-Some
+returns-in-Some c = tells c.args.ranges.now (values c.args.packet) c.told-ranges (Some (c.in-Some.range, c.in-Some.value)) c.in-Some.ensures _ refl
 
-pub loop-field-preserved : goal.loop-field-preserved
-loop-field-preserved c =
-    let more = both_more before c.args.ranges.now c.args.packet.now c.requires c.loop-field.field (record { low = 0; high = 0 }) 0 c.loop-field-test.true in
-    let low = le-ltb _ _ c.if-packet-field.false in
-    let high = le-leb _ _ c.if-packet-field-2.false in
-    c.loop-field.invariant ∙ more ∙ rw (low, high)
-
-pub returns : goal.returns
-returns c = sym (c.loop-field.invariant ∙ both_all before c.args.ranges.now c.args.packet.now c.requires c.loop-field.field c.loop-field-test.false)
+pub returns-in-None : goal.returns-in-None
+returns-in-None c = tells c.args.ranges.now (values c.args.packet) c.told-ranges None c.in-None.ensures _ refl
