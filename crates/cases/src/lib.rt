@@ -5,6 +5,8 @@
 #![tactic(auto)]
 
 pub mod answers;
+#[cfg(test)]
+mod tests;
 pub mod words;
 
 pub use answers::ended;
