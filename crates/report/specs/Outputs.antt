@@ -24,6 +24,10 @@ abbrev pub unanswered_text : Unanswered → List ℕ
 unanswered_text (Refused report) = report_text report
 unanswered_text Memory = codes "memory allocation failed"
 
+-- the line of a refusal
+abbrev pub refusal_text : Report → List ℕ
+refusal_text r = report_text r ++ codes "\n"
+
 -- the answer is this text, or this refusal, unless memory ran out
 abbrev pub Answers : Result (List ℕ) Report → Result (String Global) Unanswered → Type 0
 Answers answer (Ok text) = answer ≡ Ok (string_bytes text)

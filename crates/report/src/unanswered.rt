@@ -29,18 +29,18 @@ pub const TOO_LARGE: Report = Report {
 impl From<ReadFault> for Unanswered {
     ghost from_gives = { λ fault r. r ≡ Refused (report_of fault) };
 
-    fn from(fault: ReadFault) -> Unanswered {
-        Unanswered::Refused(fault.report())
+    fn from(fault: ReadFault) -> Self {
+        Self::Refused(fault.report())
     }
 }
 
 impl From<PackRefusal> for Unanswered {
     ghost from_gives = { λ given r. r ≡ refusal given };
 
-    fn from(given: PackRefusal) -> Unanswered {
+    fn from(given: PackRefusal) -> Self {
         match given {
-            PackRefusal::TooLarge => Unanswered::Refused(TOO_LARGE),
-            PackRefusal::Memory => Unanswered::Memory,
+            PackRefusal::TooLarge => Self::Refused(TOO_LARGE),
+            PackRefusal::Memory => Self::Memory,
         }
     }
 }
@@ -48,8 +48,8 @@ impl From<PackRefusal> for Unanswered {
 impl From<AllocError> for Unanswered {
     ghost from_gives = { λ _ r. r ≡ Memory };
 
-    fn from(_given: AllocError) -> Unanswered {
-        Unanswered::Memory
+    fn from(_given: AllocError) -> Self {
+        Self::Memory
     }
 }
 
