@@ -49,6 +49,7 @@ fn found<K: Kind>(heap: Global, text: &[u8], room: usize) -> Result<String, Unan
             hiding,
         } = *entry;
         let number = hiding.number();
+        // By `push_str`, for the error of `write!` would not say that memory ran out.
         lines.push_str(format!(in heap; "{first} {second} {number}\n")?.as_str())?;
     }
     Ok(lines)

@@ -7,12 +7,16 @@ mod packed;
 #[cfg(test)]
 mod tests;
 
-use crate::packed::{of_bytes, on_the_rig, packing};
-use cases::{bytes, ended};
+use crate::packed::{decided, on_the_rig, opened, packing, repacked};
+use anyhow::Context;
+use cases::{bytes, ended, packet};
 use decision::{Kind, Marks, Verdicts};
 use report::rows_report;
 use std::alloc::Global;
 use std::io::{BufRead, BufReader};
+
+// What a case without a packet is told.
+const FIVE: &str = "five numbers are wanting";
 
 fn of_kind<K: Kind>(heap: Global, call: &str, words: &[&str]) -> anyhow::Result<String> {
     Ok(match (call, words) {
@@ -21,7 +25,12 @@ fn of_kind<K: Kind>(heap: Global, call: &str, words: &[&str]) -> anyhow::Result<
             let text = bytes(heap, text)?;
             ended(heap, packing::<K>(heap, &text, room.parse()?))?
         }
-        (call, [packed, fields @ ..]) => of_bytes::<K>(heap, call, &bytes(heap, packed)?, fields)?,
+        ("open", [packed]) => opened::<K>(heap, &bytes(heap, packed)?)?,
+        ("opened", [packed, fields @ ..]) => {
+            let packet = packet(fields).context(FIVE)?;
+            decided::<K>(heap, &bytes(heap, packed)?, packet)?
+        }
+        ("repack", [packed]) => ended(heap, repacked::<K>(heap, &bytes(heap, packed)?))?,
         _ => String::from_str(heap, "no such case\n")?,
     })
 }
@@ -29,7 +38,10 @@ fn of_kind<K: Kind>(heap: Global, call: &str, words: &[&str]) -> anyhow::Result<
 fn answer(heap: Global, case: &str) -> anyhow::Result<String> {
     let words: Vec<&str> = case.split(' ').collect(heap)?;
     match words.as_slice() {
-        ["rig", packed, fields @ ..] => on_the_rig(heap, packed, fields),
+        ["rig", packed, fields @ ..] => {
+            let packet = packet(fields).context(FIVE)?;
+            Ok(on_the_rig(heap, &bytes(heap, packed)?, packet)?)
+        }
         [call, "1", words @ ..] => of_kind::<Verdicts>(heap, call, words),
         [call, "2", words @ ..] => of_kind::<Marks>(heap, call, words),
         _ => Ok(String::from_str(heap, "no such kind\n")?),

@@ -1,12 +1,11 @@
 // Cases on packed tables.
-use anyhow::Context;
 use blocks::{BLOCK_BYTES, BLOCK_ROWS};
 use book::Book;
-use cases::{bytes, ended, packet};
 use damage::{Damage, OpenRefusal};
 use decision::Kind;
 use opening::Table;
 use pack::pack;
+use packet::Packet;
 use policy::Source;
 use report::Unanswered;
 use rig::kusucopper_decide;
@@ -38,6 +37,7 @@ fn packed_lines<K: Kind, S: Source<K>>(
     let mut lines = format!(in heap; "packed {rows}\n")?;
     for block in bytes.chunks(BLOCK_BYTES).take(rows.div_ceil(BLOCK_ROWS)) {
         let digits = hex::encode(heap, block)?;
+        // By `push_str`, for the error of `write!` would not say that memory ran out.
         lines.push_str(format!(in heap; "block {digits}\n")?.as_str())?;
     }
     Ok(lines)
@@ -49,49 +49,57 @@ fn told_damage(heap: Global, damage: Damage) -> Result<String, AllocError> {
     format!(in heap; "refused {number} place {place}\n")
 }
 
-// What a call on packed bytes answers.
-pub(crate) fn of_bytes<K: Kind>(
+// What is told of the table in packed bytes, or the damage of bytes that hold none.
+fn of_table<K: Kind, F: FnOnce(&Table<K>) -> Result<String, Unanswered>>(
     heap: Global,
-    call: &str,
     bytes: &[u8],
-    fields: &[&str],
-) -> anyhow::Result<String> {
-    let table = match Table::<K>::open(heap, bytes) {
-        Ok(table) => table,
-        Err(OpenRefusal::Damaged(damage)) => {
-            let mut told = told_damage(heap, damage)?;
-            if call == "repack" {
-                told.push_str("end\n")?;
-            }
-            return Ok(told);
-        }
-        Err(OpenRefusal::Memory) => return Err(Unanswered::Memory.into()),
-    };
-    Ok(match (call, fields) {
-        ("open", []) => {
-            let rows = table.row_count();
-            format!(in heap; "opened {rows}\n")?
-        }
-        ("opened", fields) => {
-            let packet = packet(fields).context("five numbers are wanting")?;
-            let decision = Source::<K>::decide(&table, &packet);
-            format!(in heap; "decision {decision}\n")?
-        }
-        ("repack", []) => ended(heap, packed_lines::<K, Table<K>>(heap, &table, MOST_BYTES))?,
-        _ => String::from_str(heap, "no such case\n")?,
+    tell: F,
+) -> Result<String, Unanswered>
+    requires { F.IsAlwaysCallable tell }
+{
+    match Table::<K>::open(heap, bytes) {
+        Ok(table) => tell(&table),
+        Err(OpenRefusal::Damaged(damage)) => Ok(told_damage(heap, damage)?),
+        Err(OpenRefusal::Memory) => Err(Unanswered::Memory),
+    }
+}
+
+// How many rows packed bytes have.
+pub(crate) fn opened<K: Kind>(heap: Global, bytes: &[u8]) -> Result<String, Unanswered> {
+    of_table(heap, bytes, |table: &Table<K>| {
+        let rows = table.row_count();
+        Ok(format!(in heap; "opened {rows}\n")?)
+    })
+}
+
+// What packed bytes decide of a packet.
+pub(crate) fn decided<K: Kind>(
+    heap: Global,
+    bytes: &[u8],
+    packet: Packet,
+) -> Result<String, Unanswered> {
+    of_table(heap, bytes, |table: &Table<K>| {
+        let decision = Source::<K>::decide(table, &packet);
+        Ok(format!(in heap; "decision {decision}\n")?)
+    })
+}
+
+// The blocks into which the table in packed bytes is packed again.
+pub(crate) fn repacked<K: Kind>(heap: Global, bytes: &[u8]) -> Result<String, Unanswered> {
+    of_table(heap, bytes, |table: &Table<K>| {
+        packed_lines::<K, Table<K>>(heap, table, MOST_BYTES)
     })
 }
 
 // What the call for C programs answers.
-pub(crate) fn on_the_rig(heap: Global, packed: &str, fields: &[&str]) -> anyhow::Result<String> {
-    let packet = packet(fields).context("five numbers are wanting")?;
+pub(crate) fn on_the_rig(heap: Global, bytes: &[u8], packet: Packet) -> Result<String, AllocError> {
     let answer = kusucopper_decide(
-        &bytes(heap, packed)?,
+        bytes,
         packet.source,
         packet.source_port,
         packet.destination,
         packet.destination_port,
         packet.protocol,
     );
-    Ok(format!(in heap; "answer {answer}\n")?)
+    format!(in heap; "answer {answer}\n")
 }
