@@ -2,7 +2,7 @@
 #![tactic(auto)]
 
 use decision::Verdicts;
-use report::{Output, rows_report};
+use report::{Unanswered, rows_report};
 use std::io::Read;
 use std::process::ExitCode;
 
@@ -12,14 +12,14 @@ const ENOUGH: u64 = 16_385;
 fn main(rt: HostRuntime) -> anyhow::Result<ExitCode> {
     let mut text = Vec::new(rt.alloc());
     let _ = rt.stdin().take(ENOUGH).read_to_end(&mut text)?;
-    match rows_report::<Verdicts>(rt.alloc(), &text)? {
-        Output::Answer(lines) => {
-            rt.print(lines)?;
-            Ok(ExitCode::SUCCESS)
-        }
-        Output::Refusal(line) => {
-            rt.print(line)?;
+    match rows_report::<Verdicts>(rt.alloc(), &text) {
+        Err(Unanswered::Refused(report)) => {
+            println!(rt; "{report}")?;
             Ok(ExitCode::FAILURE)
+        }
+        answer => {
+            rt.print(answer?)?;
+            Ok(ExitCode::SUCCESS)
         }
     }
 }

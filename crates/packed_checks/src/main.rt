@@ -6,53 +6,45 @@
 mod packed;
 #[cfg(test)]
 mod tests;
-mod words;
 
-use crate::packed::{of_bytes, on_the_rig, packing};
-use crate::words::{bytes_of, number, packet_at};
+use crate::packed::{decided, on_the_rig, opened, packing, repacked};
+use anyhow::Context;
+use cases::{bytes, ended, packet};
 use decision::{Kind, Marks, Verdicts};
-use report::{Output, rows_report};
-use std::alloc::{AllocError, Global};
+use report::rows_report;
+use std::alloc::Global;
 use std::io::{BufRead, BufReader};
-use text::Report;
 
-// A fault in the form in which the program prints it, without its line feed.
-fn refused(heap: Global, report: Report) -> Result<String, AllocError> {
-    let number = report.number;
-    let layer = report.layer;
-    let line = report.line;
-    let column = report.column;
-    format!(in heap; "refused {number} layer {layer} line {line} column {column}")
+// What a case without a packet is told.
+const FIVE: &str = "five numbers are wanting";
+
+fn of_kind<K: Kind>(heap: Global, call: &str, words: &[&str]) -> anyhow::Result<String> {
+    Ok(match (call, words) {
+        ("rows", [text]) => ended(heap, rows_report::<K>(heap, &bytes(heap, text)?))?,
+        ("pack", [text, room]) => {
+            let text = bytes(heap, text)?;
+            ended(heap, packing::<K>(heap, &text, room.parse()?))?
+        }
+        ("open", [packed]) => opened::<K>(heap, &bytes(heap, packed)?)?,
+        ("opened", [packed, fields @ ..]) => {
+            let packet = packet(fields).context(FIVE)?;
+            decided::<K>(heap, &bytes(heap, packed)?, packet)?
+        }
+        ("repack", [packed]) => ended(heap, repacked::<K>(heap, &bytes(heap, packed)?))?,
+        _ => String::from_str(heap, "no such case\n")?,
+    })
 }
 
-// What the program prints for a text, ended by a line of its own.
-fn rows<K: Kind>(heap: Global, text: &[u8]) -> Result<String, AllocError> {
-    let mut lines = match rows_report::<K>(heap, text)? {
-        Output::Answer(lines) => lines,
-        Output::Refusal(line) => line,
-    };
-    lines.push_str("end\n")?;
-    Ok(lines)
-}
-
-fn of_kind<K: Kind>(heap: Global, words: &[&str]) -> Result<String, AllocError> {
-    let text = bytes_of(heap, words.get(2).copied().unwrap_or(""))?;
-    match words.first().copied().unwrap_or("") {
-        "rows" => rows::<K>(heap, &text),
-        "pack" => packing::<K>(heap, &text, number(words.get(3).copied()) as usize),
-        call => of_bytes::<K>(heap, call, &text, packet_at(words, 3)),
-    }
-}
-
-fn answer(heap: Global, case: &str) -> Result<String, AllocError> {
+fn answer(heap: Global, case: &str) -> anyhow::Result<String> {
     let words: Vec<&str> = case.split(' ').collect(heap)?;
-    if words.first().copied().unwrap_or("") == "rig" {
-        return on_the_rig(heap, &words);
-    }
-    match words.get(1).copied().unwrap_or("") {
-        "1" => of_kind::<Verdicts>(heap, &words),
-        "2" => of_kind::<Marks>(heap, &words),
-        _ => String::from_str(heap, "no such kind\n"),
+    match words.as_slice() {
+        ["rig", packed, fields @ ..] => {
+            let packet = packet(fields).context(FIVE)?;
+            Ok(on_the_rig(heap, &bytes(heap, packed)?, packet)?)
+        }
+        [call, "1", words @ ..] => of_kind::<Verdicts>(heap, call, words),
+        [call, "2", words @ ..] => of_kind::<Marks>(heap, call, words),
+        _ => Ok(String::from_str(heap, "no such kind\n")?),
     }
 }
 

@@ -1,7 +1,5 @@
 // Cases on packed tables.
-use crate::refused;
-use crate::words::{bytes_of, hex_of, packet_at};
-use blocks::BLOCK_BYTES;
+use blocks::{BLOCK_BYTES, BLOCK_ROWS};
 use book::Book;
 use damage::{Damage, OpenRefusal};
 use decision::Kind;
@@ -9,48 +7,39 @@ use opening::Table;
 use pack::pack;
 use packet::Packet;
 use policy::Source;
+use report::Unanswered;
 use rig::kusucopper_decide;
 use std::alloc::{AllocError, Global};
-use table::PackRefusal;
 use text::read;
 
 // The most bytes that a packed table has.
 const MOST_BYTES: usize = 32_768;
 
-// The packed bytes of a text's rules, given room for so many, ended by a line of its own.
+// The packed blocks of a text's rules, given room for so many bytes.
 pub(crate) fn packing<K: Kind>(
     heap: Global,
     text: &[u8],
     room: usize,
-) -> Result<String, AllocError> {
+) -> Result<String, Unanswered> {
     let mut book = Book::<K>::open(heap)?;
-    if let Err(fault) = read(&mut book, text) {
-        let told = refused(heap, fault.report())?;
-        return format!(in heap; "{told}\nend\n");
-    }
+    read(&mut book, text)?;
     packed_lines::<K, Book<K>>(heap, &book, room)
 }
 
-// The blocks of a source's table, given room for so many bytes, ended by a line of its own.
+// The blocks of a source's table, given room for so many bytes.
 fn packed_lines<K: Kind, S: Source<K>>(
     heap: Global,
     source: &S,
     room: usize,
-) -> Result<String, AllocError> {
+) -> Result<String, Unanswered> {
     let mut bytes = vec![in heap; 0u8; room.min(MOST_BYTES + BLOCK_BYTES)]?;
-    let rows = match pack::<K, S>(heap, source, &mut bytes) {
-        Ok(rows) => rows,
-        Err(PackRefusal::TooLarge) => {
-            return String::from_str(heap, "refused 5 layer 0 line 0 column 0\nend\n");
-        }
-        Err(PackRefusal::Memory) => return Err(AllocError),
-    };
+    let rows = pack::<K, S>(heap, source, &mut bytes)?;
     let mut lines = format!(in heap; "packed {rows}\n")?;
-    for block in bytes.chunks(BLOCK_BYTES).take(rows.div_ceil(18)) {
-        let digits = hex_of(heap, block)?;
+    for block in bytes.chunks(BLOCK_BYTES).take(rows.div_ceil(BLOCK_ROWS)) {
+        let digits = hex::encode(heap, block)?;
+        // By `push_str`, for the error of `write!` would not say that memory ran out.
         lines.push_str(format!(in heap; "block {digits}\n")?.as_str())?;
     }
-    lines.push_str("end\n")?;
     Ok(lines)
 }
 
@@ -60,44 +49,52 @@ fn told_damage(heap: Global, damage: Damage) -> Result<String, AllocError> {
     format!(in heap; "refused {number} place {place}\n")
 }
 
-// What a call on packed bytes answers.
-pub(crate) fn of_bytes<K: Kind>(
+// What is told of the table in packed bytes, or the damage of bytes that hold none.
+fn of_table<K: Kind, F: FnOnce(&Table<K>) -> Result<String, Unanswered>>(
     heap: Global,
-    call: &str,
     bytes: &[u8],
-    packet: Packet,
-) -> Result<String, AllocError> {
-    let table = match Table::<K>::open(heap, bytes) {
-        Ok(table) => table,
-        Err(OpenRefusal::Damaged(damage)) => {
-            let mut told = told_damage(heap, damage)?;
-            if call == "repack" {
-                told.push_str("end\n")?;
-            }
-            return Ok(told);
-        }
-        Err(OpenRefusal::Memory) => return Err(AllocError),
-    };
-    match call {
-        "open" => {
-            let rows = table.row_count();
-            format!(in heap; "opened {rows}\n")
-        }
-        "opened" => {
-            let decision = Source::<K>::decide(&table, &packet);
-            format!(in heap; "decision {decision}\n")
-        }
-        "repack" => packed_lines::<K, Table<K>>(heap, &table, MOST_BYTES),
-        _ => String::from_str(heap, "no such case\n"),
+    tell: F,
+) -> Result<String, Unanswered>
+    requires { F.IsAlwaysCallable tell }
+{
+    match Table::<K>::open(heap, bytes) {
+        Ok(table) => tell(&table),
+        Err(OpenRefusal::Damaged(damage)) => Ok(told_damage(heap, damage)?),
+        Err(OpenRefusal::Memory) => Err(Unanswered::Memory),
     }
 }
 
+// How many rows packed bytes have.
+pub(crate) fn opened<K: Kind>(heap: Global, bytes: &[u8]) -> Result<String, Unanswered> {
+    of_table(heap, bytes, |table: &Table<K>| {
+        let rows = table.row_count();
+        Ok(format!(in heap; "opened {rows}\n")?)
+    })
+}
+
+// What packed bytes decide of a packet.
+pub(crate) fn decided<K: Kind>(
+    heap: Global,
+    bytes: &[u8],
+    packet: Packet,
+) -> Result<String, Unanswered> {
+    of_table(heap, bytes, |table: &Table<K>| {
+        let decision = Source::<K>::decide(table, &packet);
+        Ok(format!(in heap; "decision {decision}\n")?)
+    })
+}
+
+// The blocks into which the table in packed bytes is packed again.
+pub(crate) fn repacked<K: Kind>(heap: Global, bytes: &[u8]) -> Result<String, Unanswered> {
+    of_table(heap, bytes, |table: &Table<K>| {
+        packed_lines::<K, Table<K>>(heap, table, MOST_BYTES)
+    })
+}
+
 // What the call for C programs answers.
-pub(crate) fn on_the_rig(heap: Global, words: &[&str]) -> Result<String, AllocError> {
-    let bytes = bytes_of(heap, words.get(1).copied().unwrap_or(""))?;
-    let packet = packet_at(words, 2);
+pub(crate) fn on_the_rig(heap: Global, bytes: &[u8], packet: Packet) -> Result<String, AllocError> {
     let answer = kusucopper_decide(
-        &bytes,
+        bytes,
         packet.source,
         packet.source_port,
         packet.destination,

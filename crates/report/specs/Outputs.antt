@@ -1,24 +1,38 @@
--- What is printed, as bytes. Cited by src/output.rt and src/rows.rt. Assumes nothing.
-use Rattle.std.specs.Prelude.{ℕ, List, [], ◌∷◌, ◌++◌, length, string_bytes, codes, decimal}
+-- What is printed, as bytes. Cited by src/unanswered.rt and src/rows.rt. Assumes nothing.
+use Rattle.std.specs.Prelude.{ℕ, List, [], ◌∷◌, ◌++◌, ◌≡◌, ⊤, length, Result, Ok, Err, codes, decimal, String, string_bytes}
+use Rattle.std.specs.declared.alloc.Global.{Global}
 use Rattle.theory.specs.Tables.{Row}
+use Rattle.table.specs.declared.refusal.PackRefusal.{PackRefusal}
+use Rattle.table.specs.declared.refusal.PackRefusal.TheVariants as pack
 use Rattle.text.specs.declared.faults.Report.{Report}
+use Rattle.text.specs.Faults.{told, report_text}
 use Rattle.text.specs.Printing.{line_text}
-use Rattle.report.specs.declared.output.Output.{Output}
-use Rattle.report.specs.declared.output.Output.TheVariants.{Answer, Refusal}
+use Rattle.report.specs.declared.unanswered.Unanswered.{Unanswered}
+use Rattle.report.specs.declared.unanswered.Unanswered.TheVariants.{Refused, Memory}
 
--- an answer or a refusal, by its bytes
-pub data Shown : Type 0 where
-  answered : List ℕ → Shown
-  refused : List ℕ → Shown
+-- refusal 5 has no layer, line or column
+abbrev pub too_large : Report
+too_large = told 5 0 0 0
 
-abbrev pub shown : Output → Shown
-shown (Answer text) = answered (string_bytes text)
-shown (Refusal text) = refused (string_bytes text)
+-- what a refused source says
+abbrev pub refusal : PackRefusal → Unanswered
+refusal pack.TooLarge = Refused too_large
+refusal pack.Memory = Memory
+
+-- what is printed where there is no answer, without the line feed
+abbrev pub unanswered_text : Unanswered → List ℕ
+unanswered_text (Refused report) = report_text report
+unanswered_text Memory = codes "memory allocation failed"
 
 -- the line of a refusal
 abbrev pub refusal_text : Report → List ℕ
-refusal_text r =
-    codes "refused " ++ (decimal r.number ++ (codes " layer " ++ (decimal r.layer ++ (codes " line " ++ (decimal r.line ++ (codes " column " ++ (decimal r.column ++ codes "\n")))))))
+refusal_text r = report_text r ++ codes "\n"
+
+-- the answer is this text, or this refusal, unless memory ran out
+abbrev pub Answers : Result (List ℕ) Report → Result (String Global) Unanswered → Type 0
+Answers answer (Ok text) = answer ≡ Ok (string_bytes text)
+Answers answer (Err (Refused report)) = answer ≡ Err report
+Answers answer (Err Memory) = ⊤
 
 -- a line for each row, in the form of a rule line
 abbrev pub lines_text : (ℕ → List ℕ) → List Row → List ℕ

@@ -3,7 +3,7 @@
 // independent implementation.
 #![tactic(auto)]
 
-use anyhow::anyhow;
+use anyhow::{Context, Result, bail};
 use book::Book;
 use decision::Verdicts;
 use pack::pack;
@@ -13,63 +13,75 @@ use std::time::Instant;
 use table::PackRefusal;
 use text::read;
 
-fn main(rt: HostRuntime) -> anyhow::Result<()> {
-    let Some(call) = env::args(&rt)?.nth(1) else {
+fn main(rt: HostRuntime) -> Result<()> {
+    let mut words = env::args(&rt)?.skip(1);
+    let Some(first) = words.next() else {
         return Ok(());
     };
-    let turns = if matches!(call.as_str(), "read" | "pack") {
-        env::args(&rt)?.nth(2)
-    } else {
-        env::args(&rt)?.nth(1)
-    };
-    let Some(turns) = turns else {
-        return Err(anyhow!("the number of turns is wanting"));
-    };
-    let turns = turns.as_str().parse::<u32>()?;
-    let mut text = Vec::new(rt.alloc());
-    let _ = rt.stdin().take(16_385).read_to_end(&mut text)?;
-    match call.as_str() {
-        "pack" => measure_pack(&rt, &text, turns),
-        _ => measure_read(&rt, &text, turns),
+    match first.as_str() {
+        "pack" => measure_pack(&rt, number(words.next())?),
+        "read" => measure_read(&rt, number(words.next())?),
+        _ => measure_read(&rt, number(Some(first))?),
     }
 }
 
-fn measure_read(rt: &HostRuntime, text: &[u8], turns: u32) -> anyhow::Result<()> {
-    let mut book = Book::<Verdicts>::open(rt.alloc())?;
-    let mut taken: u32 = 0;
+// The number of turns.
+fn number(word: Option<String>) -> Result<u32> {
+    let word = word.context("the number of turns is wanting")?;
+    Ok(word.parse::<u32>()?)
+}
+
+// The rule text on standard input. A text above 16,384 bytes is refused, so one byte more is all that need be read.
+fn input(rt: &HostRuntime) -> Result<Vec<u8>> {
+    let mut text = Vec::new(rt.alloc());
+    let _ = rt.stdin().take(16_385).read_to_end(&mut text)?;
+    Ok(text)
+}
+
+// The nanoseconds that one turn takes, as the mean of so many.
+fn measure<F: FnMut()>(rt: &HostRuntime, turns: u32, mut turn: F) -> Result<u128>
+    requires { F.IsAlwaysCallable turn }
+{
     let start = Instant::now(rt)?;
     for _ in 0..turns {
-        if read(&mut book, text).is_ok() {
+        turn();
+    }
+    Ok(start.elapsed(rt)?.as_nanos() / u128::from(turns.max(1)))
+}
+
+fn measure_read(rt: &HostRuntime, turns: u32) -> Result<()> {
+    let text = input(rt)?;
+    let mut book = Book::<Verdicts>::open(rt.alloc())?;
+    let mut taken: u32 = 0;
+    let each = measure(rt, turns, || {
+        if read(&mut book, &text).is_ok() {
             taken = taken.saturating_add(1);
         }
-    }
-    let nanos = start.elapsed(rt)?.as_nanos();
+    })?;
     let rules = book.rules().len();
     let bytes = text.len();
-    let each = nanos / u128::from(turns.max(1));
-    let pico = each % 1_000_000_000 * 1_000 / text.len().max(1) as u128;
+    let pico = each % 1_000_000_000 * 1_000 / bytes.max(1) as u128;
     println!(rt;
         "proved: {bytes} bytes, {rules} rules, taken {taken} of {turns} times, {each} ns a text, {pico} ps a byte"
     )?;
     Ok(())
 }
 
-fn measure_pack(rt: &HostRuntime, text: &[u8], turns: u32) -> anyhow::Result<()> {
+fn measure_pack(rt: &HostRuntime, turns: u32) -> Result<()> {
+    let text = input(rt)?;
     let mut book = Book::<Verdicts>::open(rt.alloc())?;
-    if read(&mut book, text).is_err() {
-        return Err(anyhow!("the text is no rule list"));
+    if read(&mut book, &text).is_err() {
+        bail!("the text is no rule list");
     }
     let mut bytes = vec![in rt.alloc(); 0u8; 32_768]?;
-    let mut answer = Err(PackRefusal::Memory);
-    let start = Instant::now(rt)?;
-    for _ in 0..turns {
-        answer = pack::<Verdicts, Book<Verdicts>>(rt.alloc(), &book, &mut bytes);
-    }
-    let each = start.elapsed(rt)?.as_nanos() / u128::from(turns.max(1));
-    match answer {
+    let mut answer = None;
+    let each = measure(rt, turns, || {
+        answer = Some(pack::<Verdicts, Book<Verdicts>>(rt.alloc(), &book, &mut bytes));
+    })?;
+    match answer.context("no turn was taken")? {
         Ok(rows) => println!(rt; "proved: {rows} rows, pack {each} ns")?,
         Err(PackRefusal::TooLarge) => println!(rt; "proved: refused 5, {each} ns")?,
-        Err(PackRefusal::Memory) => return Err(anyhow!("there is no memory")),
+        Err(PackRefusal::Memory) => bail!("there is no memory"),
     }
     Ok(())
 }

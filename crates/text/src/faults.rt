@@ -1,7 +1,9 @@
 // What is wrong with a rule text, layer by layer. Each layer carries the fault of the one below it whole.
-ghost use Rattle.std.specs.Prelude.{◌≡◌};
-ghost use Rattle.text.specs.Faults.{report_of};
+ghost use Rattle.std.specs.Prelude.{◌≡◌, Some};
+ghost use Rattle.text.specs.Faults.{report_of, report_text};
 ghost use Rattle.text.specs.declared.faults.LineFault.TheVariants.{Letter, Word};
+
+use std::fmt;
 
 // Layer 1. 7: a byte outside 32 to 126.
 #[derive(Clone, Copy, PartialEq, Eq, Debug)]
@@ -47,6 +49,24 @@ pub struct Report {
     pub layer: u8,
     pub line: usize,
     pub column: usize,
+}
+
+// The line that tells a refusal, without its line feed.
+impl fmt::Display for Report {
+    ghost output = { λ report. Some (report_text report) };
+
+    fn fmt<W: fmt::Write>(&self, f: &mut fmt::Formatter<W>) -> fmt::Result {
+        let Report {
+            number,
+            layer,
+            line,
+            column,
+        } = *self;
+        write!(
+            f,
+            "refused {number} layer {layer} line {line} column {column}"
+        )
+    }
 }
 
 impl From<LetterFault> for LineFault {
