@@ -33,7 +33,7 @@ impl<K: Kind> Book<K> {
     }
 
     // Puts the rule behind the first `position` rules.
-    #[tactic(auto, using(crate::proofs::Edited::forward_inserted))]
+    #[tactic(auto, using(crate::proofs::Edited::all_inserted))]
     pub fn add(&mut self, position: usize, rule: Rule) -> Result<(), Refusal>
         ensures answer { result ≡ (add K.Kind.COUNT K.Kind.SILENT (rules_of self.old) position rule).answer }
         ensures rules { rules_of self.new ≡ (add K.Kind.COUNT K.Kind.SILENT (rules_of self.old) position rule).rules }
@@ -67,7 +67,7 @@ impl<K: Kind> Book<K> {
     }
 
     // Takes the rule at `from` out and puts it behind the first `to` of those left.
-    #[tactic(auto, using(crate::proofs::Edited::forward_inserted, crate::proofs::Edited::forward_removed, crate::proofs::Edited::forward_taken))]
+    #[tactic(auto, using(crate::proofs::Edited::all_inserted, crate::proofs::Edited::all_removed, crate::proofs::Edited::all_taken))]
     pub fn shift(&mut self, from: usize, to: usize) -> Result<(), Refusal>
         ensures answer { result ≡ (shift (rules_of self.old) from to).answer }
         ensures rules { rules_of self.new ≡ (shift (rules_of self.old) from to).rules }
