@@ -1,4 +1,8 @@
 -- What the scans of a book's rules find, as specs/ says it. Assumes nothing.
+use Rattle.std.specs.Prelude.{nat_lt}
+use Rattle.std.proofs.lemmas.Bool.{and_parts, lt-ltb, ltb-true}
+use Rattle.decision.specs.Kinds.{known}
+use Rattle.book.specs.Rules.{Speaks, AllSpeak}
 use Rattle.std.proofs.Common.{◌≡◌, ℕ, zero, suc, ◌+◌, ◌<◌, ◌≤◌, min, Bool, true, false, cond, ◌&&◌, List, [], ◌∷◌, Option, Some, length, get_or, take, drop, sym, refl, ap, ◌∙◌, ap₂, arith}
 use Rattle.std.specs.List.{list_all, find, zip}
 use Rattle.std.specs.Option.{unwrap_or, option_map}
@@ -101,3 +105,16 @@ module _ (f : ℕ) (p : List ℕ) (rules : List Rule) (i : ℕ) where
   pub look_end : length rules ≤ i → from i ≡ get_or tops f 0
   unfolding nearest looked_at
   look_end h = at_drop_all (λ l. nearest f p (looked_at f p l)) rules i h
+
+-- where every rule speaks, the first that holds the packet decides by a decision of the kind
+first_few : (count silent : ℕ) (rules : List Rule) (p : List ℕ) → silent < count → AllSpeak count silent rules → first silent rules p < count
+unfolding first
+first_few count silent [] p h a = h
+first_few count silent (rule ∷ rules) p h a =
+    let speaks : Speaks count silent rule = a 0 rule (omega arith) in
+    let one : rule.decision < count = ltb-true rule.decision count (and_parts (nat_lt rule.decision count) _ speaks).0 in
+    let rest : first silent rules p < count = first_few count silent rules p h (λ k d l. a (suc k) d (omega arith)) in
+    elim (holds (ranges rule.region) p) as (λ b. cond b rule.decision (first silent rules p) < count) [ true ↦ one | false ↦ rest ]
+
+pub known_first : (count silent : ℕ) (rules : List Rule) (p : List ℕ) → silent < count → AllSpeak count silent rules → first silent rules p ≡ known count silent (first silent rules p)
+known_first count silent rules p h a = rw (lt-ltb (first silent rules p) count (first_few count silent rules p h a)) refl

@@ -25,7 +25,7 @@ impl<K: Kind> Source<K> for Book<K> {
     ghost sound = { λ s f p r few w h. stops_edge K.Kind.COUNT K.Kind.SILENT (rules_of s) f p r few w h };
 
     fn decide(&self, packet: &Packet) -> u8 {
-        K::or_silent(first_decision(&self.rules, *packet).unwrap_or(K::SILENT))
+        first_decision(&self.rules, *packet).unwrap_or(K::SILENT)
     }
 
     fn edge(&self, field: Field, packet: &Packet) -> u32 {

@@ -1,5 +1,4 @@
-use Rattle.std.proofs.Common.{◌≡◌, true, rules}
-use Rattle.book.specs.PlainList.{speaks}
+use Rattle.std.proofs.Common.{rules}
 use Rattle.book.specs.Rules.{Forward, Speaks}
 use Rattle.book.proofs.Edited.{all_inserted}
 use Rattle.book.proofs.book.Book.add.Goals as goal

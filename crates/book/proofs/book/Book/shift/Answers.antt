@@ -1,5 +1,4 @@
 use Rattle.std.proofs.Common.{◌<◌, length, arith}
-use Rattle.book.specs.declared.rule.Rule.{Rule}
 use Rattle.book.specs.Rules.{Forward, Speaks}
 use Rattle.book.proofs.Edited.{all_inserted, all_removed, all_taken}
 use Rattle.book.proofs.book.Book.shift.Goals as goal
