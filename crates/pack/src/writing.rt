@@ -5,13 +5,9 @@ ghost use Rattle.blocks.specs.Writing.{row_bytes, block, packed};
 ghost use Rattle.table.specs.Rows.{plain, view, most_rows};
 
 use blocks::check::BODY_BYTES;
-use blocks::{BLOCK_BYTES, BLOCK_ROWS, check_sum};
-use packet::Field;
+use blocks::{BLOCK_BYTES, BLOCK_ROWS, WIDTHS, check_sum};
 use std::alloc::{AllocError, Global};
 use table::Row;
-
-// The bytes that a value of each field takes.
-const WIDTHS: [usize; Field::COUNT] = [4, 2, 4, 2, 1];
 
 // Appends the lowest bytes of the value, the most significant first.
 fn append_number(out: &mut Vec<u8>, value: u32, width: usize) -> Result<(), AllocError>

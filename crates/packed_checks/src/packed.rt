@@ -1,7 +1,7 @@
 // Cases on packed tables.
 use blocks::{BLOCK_BYTES, BLOCK_ROWS};
 use book::Book;
-use damage::{Damage, OpenRefusal};
+use damage::OpenRefusal;
 use decision::Kind;
 use opening::Table;
 use pack::pack;
@@ -43,12 +43,6 @@ fn packed_lines<K: Kind, S: Source<K>>(
     Ok(lines)
 }
 
-fn told_damage(heap: Global, damage: Damage) -> Result<String, AllocError> {
-    let number = damage.number();
-    let place = damage.place();
-    format!(in heap; "refused {number} place {place}\n")
-}
-
 // What is told of the table in packed bytes, or the damage of bytes that hold none.
 fn of_table<K: Kind, F: FnOnce(&Table<K>) -> Result<String, Unanswered>>(
     heap: Global,
@@ -59,7 +53,7 @@ fn of_table<K: Kind, F: FnOnce(&Table<K>) -> Result<String, Unanswered>>(
 {
     match Table::<K>::open(heap, bytes) {
         Ok(table) => tell(&table),
-        Err(OpenRefusal::Damaged(damage)) => Ok(told_damage(heap, damage)?),
+        Err(OpenRefusal::Damaged(damage)) => Ok(format!(in heap; "{damage}\n")?),
         Err(OpenRefusal::Memory) => Err(Unanswered::Memory),
     }
 }

@@ -4,7 +4,7 @@ use book::Book;
 use decision::Verdicts;
 use opening::Table;
 use pack::pack;
-use policy::Join;
+use policy::{Combined, Join};
 use std::alloc::{AllocError, Global};
 use std::test::Fail;
 use text::read;
@@ -50,10 +50,14 @@ fn adjoining_ports_pack_as_one_range(rt: HostRuntime) -> Result<(), Fail> {
 fn overlapping_boxes_join_to_eleven_rows(rt: HostRuntime) -> Result<(), Fail> {
     let first = book(rt.alloc(), "allow * * 0.0.0.1-0.0.0.3 1-3 *\n")?;
     let second = book(rt.alloc(), "allow * * 0.0.0.2-0.0.0.4 2-4 *\n")?;
-    let both = Join { first, second };
+    let both = Combined {
+        first,
+        second,
+        by: Join,
+    };
     let mut bytes = vec![in rt.alloc(); 0u8; 512]?;
     assert_eq!(rt;
-        pack::<Verdicts, Join<Book<Verdicts>, Book<Verdicts>>>(rt.alloc(), &both, &mut bytes),
+        pack::<Verdicts, Combined<Book<Verdicts>, Book<Verdicts>, Join>>(rt.alloc(), &both, &mut bytes),
         Ok(11)
     );
     match Table::<Verdicts>::open(rt.alloc(), &bytes) {
