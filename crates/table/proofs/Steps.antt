@@ -8,6 +8,7 @@ use Rattle.packet.specs.declared.field.Field.{Field}
 use Rattle.packet.specs.declared.field.Field.TheVariants.{Source, SourcePort, Destination, DestinationPort, Protocol}
 use Rattle.packet.specs.Regions.{ranges}
 use Rattle.packet.specs.Packets.{values, tops, place, Within}
+use Rattle.packet.proofs.Values.{place_few}
 use Rattle.policy.specs.Edges.{Edge, Alike}
 use Rattle.theory.specs.Tables.{Row, table, sub_table}
 use Rattle.theory.proofs.Runs.{Constant, sub_table_counts}
@@ -57,13 +58,6 @@ module _ (k f : ℕ) (m : List ℕ → ℕ) where
   pub counts_at : (at : Packet) → k ≡ f + 1 → length (table_from m k (values at)) ≡ length (table_from m (f + 1) (values at))
   counts_at at e = ap (λ n. length (table_from m n (values at))) e
 
-place_below : (h : Field) → place h < length tops
-place_below Source = omega arith
-place_below SourcePort = omega arith
-place_below Destination = omega arith
-place_below DestinationPort = omega arith
-place_below Protocol = omega arith
-
 -- the field h has the place f, and the fields before it have the values of `at`; `left` is what m then decides
 module _ (m : List ℕ → ℕ) (h : Field) (f : ℕ) (e : place h ≡ f) (at : Packet) where
   abbrev pub left : List ℕ → ℕ
@@ -73,7 +67,7 @@ module _ (m : List ℕ → ℕ) (h : Field) (f : ℕ) (e : place h ≡ f) (at : 
   later = drop (f + 1) tops
 
   below : f < length tops
-  below = omega (arith, place_below h)
+  below = omega (arith, place_few h)
 
   -- the packet `next` is `at` with the value v of the field
   abbrev pub Has : Packet → ℕ → Type 0

@@ -4,7 +4,7 @@ ghost use Rattle.std.specs.List.{list_all, zip};
 ghost use Rattle.packet.specs.Packets.{values, place};
 ghost use Rattle.packet.specs.Regions.{ranges, inside, holds};
 ghost use Rattle.book.specs.Books.{rules_of};
-ghost use Rattle.book.specs.Deciding.{first, meant};
+ghost use Rattle.book.specs.Deciding.{meant};
 ghost use Rattle.book.specs.Reach.{whole, Stops};
 ghost use Rattle.book.specs.Reaches.{stops_edge};
 ghost use Rattle.decision.specs.Tested.{known_of_kind};
