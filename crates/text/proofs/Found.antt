@@ -224,10 +224,6 @@ module _ (count silent : ℕ) (spelling : ℕ → List ℕ) (p : List ℕ) (text
   place_is : place_of read p text.now ≡ Ok place
   place_is = ap (λ (a : Result (Unit {0}) ReadFault). then a (λ _. Ok place)) (sym well)
 
-  pub line_borrowed : (r : Option (Bor (List ℕ))) → LineAt r text place → Borrowed (Ok r) text (place_of read p text.now)
-  line_borrowed None at = place_is ∙ ap Ok at
-  line_borrowed (Some line) at = (at.0, place_is ∙ ap Ok at.1, at.2)
-
   outcome : Outcome read p place (read_of read text.now).rules
   unfolding first_rule
   outcome = at_length (ltb 16384 (length text.now)) well

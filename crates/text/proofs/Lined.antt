@@ -18,10 +18,6 @@ module _ (read : List ℕ → Option ℕ) (number : ℕ) (l : List ℕ) (ls : Li
   lines_stop fault stopped leaves =
       ap (λ answer. go_on answer (add_line read number l rules).rules (lines_from read (number + 1) ls)) (sym stopped) ∙ ap (ended (Err fault)) (sym leaves)
 
-pub lines_end : (read : List ℕ → Option ℕ) (number : ℕ) (rules : List Rule) → lines_from read number [] rules ≡ ended (Ok tt) rules
-unfolding lines_from
-lines_end read number rules = refl
-
 -- the lines that are still to be taken, added one by one
 abbrev pub lines_left : (List ℕ → Option ℕ) → Lines → List Rule → Reading
 lines_left read s rules = lines_from read (s.number + 1) (left s.pieces) rules

@@ -8,11 +8,6 @@ use Rattle.text.proofs.Lined.{left_more, left_stop, left_end}
 use Rattle.text.proofs.Found.{counted_taken, counted_stop}
 use Rattle.text.proofs.deciding.check.Goals as goal
 
-pub loop-line-init : goal.loop-line-init
-loop-line-init g c =
-    let read = reads g.K.Kind in
-    ([], refl, search rules)
-
 pub loop-line-preserved : goal.loop-line-preserved
 loop-line-preserved g c =
     let read = reads g.K.Kind in

@@ -9,10 +9,6 @@ pub returns-then-range : goal.returns-then-range
 returns-then-range c =
     c.in_ok-push_value.ensures ∙ ap (λ t. string_bytes c.args.out.now ++ t) (sym (range_single c.args.field c.args.range c.if-is_whole.ensures c.if-range.true))
 
-pub returns-in_err-push_letter : goal.returns-in_err-push_letter
-returns-in_err-push_letter c =
-    appended_break c.from_residual-in_err-push_letter.result _ _ _ _ _ c.from_residual-in_err-push_letter.ensures.0 c.in_ok-push_value.ensures c.in_err-push_letter.ensures
-
 pub returns : goal.returns
 returns c =
     appended_joined c.push_value-2.result _ _ _ 45 _ _ _ _ c.in_ok-push_value.ensures c.in_ok-push_letter.ensures
