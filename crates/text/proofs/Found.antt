@@ -13,7 +13,7 @@ use Rattle.text.specs.Pieces.{pieces, longer}
 use Rattle.text.specs.Lines.{line_of}
 use Rattle.text.specs.Steps.{then}
 use Rattle.text.specs.Readings.{Reading, ended, added, go_on, lines_from, read_of}
-use Rattle.text.specs.DecidingLines.{counted, said_holds, Place, first_line, place_of, LineAt, Borrowed, first_rule, Says, Decides}
+use Rattle.text.specs.DecidingLines.{counted, said_holds, Place, first_line, place_of, LineAt, first_rule, Says, Decides}
 use Rattle.text.proofs.Said.{read_known, line_fit}
 
 -- the first piece begins the text, and the others are those behind its separator, if there is one

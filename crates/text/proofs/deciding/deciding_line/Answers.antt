@@ -1,8 +1,8 @@
-use Rattle.std.proofs.Common.{◌≡◌, ℕ, List, Ok, sym, subst, rules, Bor}
+use Rattle.std.proofs.Common.{◌≡◌, ℕ, List, Ok, subst, rules, Bor}
 use Rattle.packet.specs.Packets.{values}
 use Rattle.text.specs.Reads.{reads}
 use Rattle.text.specs.Readings.{read_of}
-use Rattle.text.specs.DecidingLines.{place_of, Borrowed, Decides}
+use Rattle.text.specs.DecidingLines.{Decides}
 use Rattle.text.proofs.Found.{line_decides}
 use Rattle.text.proofs.deciding.deciding_line.Goals as goal
 

@@ -1,9 +1,9 @@
-use Rattle.std.proofs.Common.{◌≡◌, ◌+◌, length, Some, sym, ap, ◌∙◌, subst, arith, rules, refl}
+use Rattle.std.proofs.Common.{◌+◌, length, ap, ◌∙◌, subst, refl}
 use Rattle.packet.specs.Packets.{values}
 use Rattle.text.specs.Reads.{reads}
-use Rattle.text.specs.Pieces.{pieces, left, LiesAt}
+use Rattle.text.specs.Pieces.{left}
 use Rattle.text.specs.DecidingLines.{first_line}
-use Rattle.text.proofs.Found.{Cut, cut_whole, cut_bytes, cut_within, cut_more, line_here, line_later, line_none}
+use Rattle.text.proofs.Found.{Cut, cut_bytes, cut_within, cut_more, line_here, line_later, line_none}
 use Rattle.text.proofs.deciding.first_line.Goals as goal
 
 pub returns-then-line_holds : goal.returns-then-line_holds

@@ -1,5 +1,5 @@
 use Rattle.std.proofs.Common.{◌≡◌, ℕ, ◌<◌, ◌≤◌, length, get_or, string_bytes, sym, ◌∙◌, subst, arith}
-use Rattle.text.proofs.Appends.{appended_begins, cut_back, nothing_written, boundary_behind}
+use Rattle.text.proofs.Appends.{appended_begins, boundary_behind}
 use Rattle.text.proofs.print.print_line.Goals as goal
 
 pub truncate-requires : goal.truncate-requires

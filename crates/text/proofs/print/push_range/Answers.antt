@@ -1,5 +1,5 @@
 use Rattle.std.proofs.Common.{◌++◌, string_bytes, sym, ap, ◌∙◌}
-use Rattle.text.proofs.Appends.{appended_as, appended_joined, appended_break, range_whole, range_single, range_double}
+use Rattle.text.proofs.Appends.{appended_as, appended_joined, range_whole, range_single, range_double}
 use Rattle.text.proofs.print.push_range.Goals as goal
 
 pub returns-then-is_whole : goal.returns-then-is_whole

@@ -1,11 +1,11 @@
-use Rattle.std.proofs.Common.{[], ◌∷◌, ◌++◌, get_or, string_bytes, sym, refl, ap, ◌∙◌, arith}
+use Rattle.std.proofs.Common.{[], ◌∷◌, ◌++◌, get_or, string_bytes, sym, refl, ap, ◌∙◌}
 use Rattle.std.proofs.lemmas.List.{append-nil, append_assoc}
 use Rattle.packet.specs.Regions.{ranges}
 use Rattle.packet.specs.declared.field.Field.TheVariants.{Source}
 use Rattle.text.specs.Fields.{fields}
 use Rattle.text.specs.Printing.{range_text}
 use Rattle.text.proofs.Placed.{field_nth}
-use Rattle.text.proofs.Appends.{appended_break, ranges_text_more, ranges_text_end}
+use Rattle.text.proofs.Appends.{ranges_text_more, ranges_text_end}
 use Rattle.text.proofs.print.push_ranges.Goals as goal
 
 pub loop-field-preserved : goal.loop-field-preserved
