@@ -43,10 +43,6 @@ abbrev pub Cut : List ℕ → ℕ → List (List ℕ) → Type 0
 Cut text start [] = Unit {0}
 Cut text start (l ∷ ls) = (start ≤ length text) × (l ∷ ls ≡ pieces 10 (drop start text))
 
-pub cut_whole : (text : List ℕ) (ls : List (List ℕ)) → ls ≡ pieces 10 text → Cut text 0 ls
-cut_whole text [] is = tt
-cut_whole text (l ∷ ls) is = (omega arith, is)
-
 module _ (text : List ℕ) (start : ℕ) (l : List ℕ) (ls : List (List ℕ)) (cut : Cut text start (l ∷ ls)) where
   heads : Heads 10 (drop start text) (l ∷ ls)
   heads = subst (Heads 10 (drop start text)) (sym cut.1) (pieces_heads 10 (drop start text))
