@@ -11,9 +11,8 @@ use Rattle.text.specs.declared.faults.ReadFault.{ReadFault}
 use Rattle.text.specs.declared.faults.ReadFault.TheVariants.{Line, Full, Long}
 use Rattle.text.specs.Pieces.{pieces, longer}
 use Rattle.text.specs.Lines.{line_of}
-use Rattle.text.specs.Steps.{then}
 use Rattle.text.specs.Readings.{Reading, ended, added, go_on, lines_from, read_of}
-use Rattle.text.specs.DecidingLines.{counted, said_holds, Place, first_line, place_of, LineAt, first_rule, Says, Decides}
+use Rattle.text.specs.DecidingLines.{counted, said_holds, Place, first_line, LineAt, first_rule, Says, Decides}
 use Rattle.text.proofs.Said.{read_known, line_fit}
 
 -- the first piece begins the text, and the others are those behind its separator, if there is one
@@ -216,9 +215,6 @@ module _ (count silent : ℕ) (spelling : ℕ → List ℕ) (p : List ℕ) (text
 
   abbrev place : Option Place
   place = first_line read p 0 (pieces 10 text.now)
-
-  place_is : place_of read p text.now ≡ Ok place
-  place_is = ap (λ (a : Result (Unit {0}) ReadFault). then a (λ _. Ok place)) (sym well)
 
   outcome : Outcome read p place (read_of read text.now).rules
   unfolding first_rule

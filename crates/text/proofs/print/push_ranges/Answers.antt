@@ -13,9 +13,9 @@ loop-field-preserved c =
     let so_far = c.loop-field.invariant.0 in
     let field = get_or fields c.loop-field.field-index Source in
     let text = range_text field c.range.result in (
-        so_far ++ (32 ∷ text),
-        c.in_ok-push_range.ensures ∙ ap (λ bs. bs ++ text) (c.in_ok-push_letter.ensures ∙ ap (λ bs. bs ++ (32 ∷ [])) c.loop-field.invariant.1) ∙ append_assoc _ (32 ∷ []) text ∙ append_assoc _ so_far (32 ∷ text),
-        c.loop-field.invariant.2 ∙ ap (λ t. so_far ++ t) (ranges_text_more field c.loop-field.field-index (field_nth c.loop-field.field-index c.loop-field-test.true) (ranges c.args.region) c.range.result refl c.range.ensures) ∙ sym (append_assoc so_far (32 ∷ text) _),
+      so_far ++ (32 ∷ text),
+      c.in_ok-push_range.ensures ∙ ap (λ bs. bs ++ text) (c.in_ok-push_letter.ensures ∙ ap (λ bs. bs ++ (32 ∷ [])) c.loop-field.invariant.1) ∙ append_assoc _ (32 ∷ []) text ∙ append_assoc _ so_far (32 ∷ text),
+      c.loop-field.invariant.2 ∙ ap (λ t. so_far ++ t) (ranges_text_more field c.loop-field.field-index (field_nth c.loop-field.field-index c.loop-field-test.true) (ranges c.args.region) c.range.result refl c.range.ensures) ∙ sym (append_assoc so_far (32 ∷ text) _),
     )
 
 pub returns : goal.returns
