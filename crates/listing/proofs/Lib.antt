@@ -1,4 +1,3 @@
-pub mod Listed
 pub mod Cuts
 pub mod Numbered
 pub mod Ranged

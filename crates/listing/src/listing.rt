@@ -8,13 +8,12 @@ use decision::Kind;
 use std::alloc::{AllocError, Global};
 use text::print::print_line;
 
-// Appends a line for each rule.
+// Appends a line for each rule. The rows of a report are of another type, and their loop is the same two lines.
 fn push_rules<K: Kind>(out: &mut String, book: &Book<K>) -> Result<(), AllocError>
     ensures bytes { OnOk result (string_bytes out.new ≡ string_bytes out.old ++ rules_text K.Kind.spelling (rules_of book.now)) }
     ensures reads_back { OnOk result (ReadsBack K.Kind.COUNT K.Kind.SILENT K.Kind.spelling (rules_of book.now) (rules_text K.Kind.spelling (rules_of book.now))) }
 {
-    let rules = book.rules();
-    for rule in rules {
+    for rule in book.rules() {
         // Only for its promise that the ends of ranges fit their fields.
         let _ = rule.region.to_array();
         print_line::<K>(out, rule.region, rule.decision)?;

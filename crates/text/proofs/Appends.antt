@@ -1,9 +1,9 @@
 -- One writing after another. Assumes nothing.
-use Rattle.std.proofs.Common.{◌≡◌, ℕ, suc, ◌+◌, ◌-◌, ◌/◌, ◌%◌, ◌^◌, ◌<◌, ◌≤◌, Bool, true, false, cond, eqb, List, [], ◌∷◌, ◌++◌, length, get_or, take, drop, is_ok, is_err, Ok, Err, IsUtf8, decimal, Result, sym, refl, ap, ◌∙◌, subst, ap₂, arith}
+use Rattle.std.proofs.Common.{◌≡◌, ℕ, suc, ◌+◌, ◌-◌, ◌/◌, ◌%◌, ◌<◌, ◌≤◌, Bool, true, false, eqb, List, [], ◌∷◌, ◌++◌, length, get_or, take, drop, is_err, Ok, Err, IsUtf8, decimal, Result, sym, refl, ap, ◌∙◌, subst, ap₂, arith}
 use mathlib.Core.Logic.{∥∥₁_elim}
 use native.Mathlib.Bridge.{le_prop}
 use Rattle.std.proofs.lemmas.Str.{IsCharBoundary-from_take}
-use Rattle.std.proofs.lemmas.List.{append_assoc, append-nil, take_at, drop_more, drop_all}
+use Rattle.std.proofs.lemmas.List.{append_assoc, take_at, drop_more, drop_all}
 use Rattle.std.proofs.lemmas.Bool.{eq-eqb, ne_eqb, cond-true, cond-false}
 use Rattle.packet.specs.declared.field.Field.{Field}
 use Rattle.packet.specs.declared.range.Range.{Range}
@@ -41,16 +41,6 @@ module _ {T E : Type 0} where
   pub appended_begins : (r : Result T E) (before text after : List ℕ) → Appended r before text after → (rest : List ℕ) × (after ≡ before ++ rest)
   appended_begins (Ok x) before text after e = (text, e)
   appended_begins (Err x) before text after e = e
-
-  -- cut back to what was there before, nothing is written
-  pub cut_back : (r : Result T E) (before text after : List ℕ) (n : ℕ) → n ≡ length before → Appended r before text after → take n after ≡ before
-  cut_back r before text after n long e =
-      let begins = appended_begins r before text after e in
-      ap (take n) begins.1 ∙ take_at before begins.0 n (sym long)
-
-  pub nothing_written : (r : Result T E) (before text : List ℕ) → true ≡ is_err r → before ≡ before ++ cond (is_ok r) text []
-  nothing_written (Ok x) before text err = let y : ◌≡◌ {A = ℕ} 0 1 = cc in absurd (omega arith)
-  nothing_written (Err x) before text err = sym (append-nil before)
 
 pub byte_last : (more n : ℕ) → more ≡ 0 → bytes_text more n ≡ decimal (n % 256)
 unfolding bytes_text

@@ -11,9 +11,8 @@ use Rattle.text.specs.declared.faults.ReadFault.{ReadFault}
 use Rattle.text.specs.declared.faults.ReadFault.TheVariants.{Line, Full, Long}
 use Rattle.text.specs.Pieces.{pieces, longer}
 use Rattle.text.specs.Lines.{line_of}
-use Rattle.text.specs.Steps.{then}
 use Rattle.text.specs.Readings.{Reading, ended, added, go_on, lines_from, read_of}
-use Rattle.text.specs.DecidingLines.{counted, said_holds, Place, first_line, place_of, LineAt, Borrowed, first_rule, Says, Decides}
+use Rattle.text.specs.DecidingLines.{counted, said_holds, Place, first_line, LineAt, first_rule, Says, Decides}
 use Rattle.text.proofs.Said.{read_known, line_fit}
 
 -- the first piece begins the text, and the others are those behind its separator, if there is one
@@ -42,10 +41,6 @@ pieces_heads sep (b ∷ bs) = at_byte (eqb b sep) (pieces sep bs) refl (pieces_h
 abbrev pub Cut : List ℕ → ℕ → List (List ℕ) → Type 0
 Cut text start [] = Unit {0}
 Cut text start (l ∷ ls) = (start ≤ length text) × (l ∷ ls ≡ pieces 10 (drop start text))
-
-pub cut_whole : (text : List ℕ) (ls : List (List ℕ)) → ls ≡ pieces 10 text → Cut text 0 ls
-cut_whole text [] is = tt
-cut_whole text (l ∷ ls) is = (omega arith, is)
 
 module _ (text : List ℕ) (start : ℕ) (l : List ℕ) (ls : List (List ℕ)) (cut : Cut text start (l ∷ ls)) where
   heads : Heads 10 (drop start text) (l ∷ ls)
@@ -220,13 +215,6 @@ module _ (count silent : ℕ) (spelling : ℕ → List ℕ) (p : List ℕ) (text
 
   abbrev place : Option Place
   place = first_line read p 0 (pieces 10 text.now)
-
-  place_is : place_of read p text.now ≡ Ok place
-  place_is = ap (λ (a : Result (Unit {0}) ReadFault). then a (λ _. Ok place)) (sym well)
-
-  pub line_borrowed : (r : Option (Bor (List ℕ))) → LineAt r text place → Borrowed (Ok r) text (place_of read p text.now)
-  line_borrowed None at = place_is ∙ ap Ok at
-  line_borrowed (Some line) at = (at.0, place_is ∙ ap Ok at.1, at.2)
 
   outcome : Outcome read p place (read_of read text.now).rules
   unfolding first_rule

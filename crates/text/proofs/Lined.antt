@@ -1,5 +1,5 @@
 -- One line more of a text. Assumes nothing.
-use Rattle.std.proofs.Common.{◌≡◌, ℕ, ◌+◌, List, [], ◌∷◌, Ok, Err, Option, sym, refl, ap, ap₂, ◌∙◌}
+use Rattle.std.proofs.Common.{◌≡◌, ℕ, ◌+◌, List, [], ◌∷◌, Ok, Err, Option, sym, ap, ap₂, ◌∙◌}
 use Rattle.book.specs.declared.rule.Rule.{Rule}
 use Rattle.text.specs.declared.faults.ReadFault.{ReadFault}
 use Rattle.text.specs.declared.lines.Line.{Line}
@@ -17,10 +17,6 @@ module _ (read : List ℕ → Option ℕ) (number : ℕ) (l : List ℕ) (ls : Li
   unfolding lines_from
   lines_stop fault stopped leaves =
       ap (λ answer. go_on answer (add_line read number l rules).rules (lines_from read (number + 1) ls)) (sym stopped) ∙ ap (ended (Err fault)) (sym leaves)
-
-pub lines_end : (read : List ℕ → Option ℕ) (number : ℕ) (rules : List Rule) → lines_from read number [] rules ≡ ended (Ok tt) rules
-unfolding lines_from
-lines_end read number rules = refl
 
 -- the lines that are still to be taken, added one by one
 abbrev pub lines_left : (List ℕ → Option ℕ) → Lines → List Rule → Reading

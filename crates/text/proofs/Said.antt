@@ -9,7 +9,6 @@ use Rattle.packet.specs.declared.range.Range.{Range}
 use Rattle.packet.specs.Regions.{ranges, range_at, reversed, any_reversed}
 use Rattle.decision.specs.Kinds.{read_word}
 use Rattle.book.specs.declared.rule.Rule.{Rule}
-use Rattle.book.specs.declared.refusal.Refusal.{Refusal}
 use Rattle.book.specs.declared.refusal.Refusal.TheVariants.{Full}
 use Rattle.book.specs.PlainList.{Step, taken, refused, speaks, add, with_rule}
 use Rattle.text.specs.declared.faults.LineFault.TheVariants.{Letter, Word}

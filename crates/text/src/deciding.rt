@@ -15,6 +15,7 @@ use packet::Packet;
 // How many rules a text has at most.
 const MOST: usize = 64;
 
+// The steps of `read` with a count in place of a book: the count needs no memory, and each step is one line here and there.
 // How many rules there are with that of the line, behind `count` of the lines before it.
 fn count_line<K: Kind>(count: usize, line: Line) -> Result<usize, ReadFault>
     ensures { result ≡ counted line.entry.number count (line_of (reads K.Kind) line.entry.bytes.now) }

@@ -8,6 +8,7 @@ use crate::lines::Line;
 use crate::pieces::Pieces;
 use crate::tokens::Token;
 
+// The words that are left, and the column where they begin.
 #[derive(Drop)]
 pub(crate) struct Lexer<'a> {
     pub(crate) words: Pieces<'a>,
@@ -25,7 +26,6 @@ impl<'a> Lexer<'a> {
             column: 1,
         }
     }
-
 }
 
 impl<'a> Iterator for Lexer<'a> {

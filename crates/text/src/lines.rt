@@ -48,7 +48,7 @@ pub(crate) struct Line<'a> {
 }
 
 // The lines that are still to be taken, and how many were.
-#[derive(Clone, Copy)]
+#[derive(Drop)]
 pub(crate) struct Lines<'a> {
     pieces: Pieces<'a>,
     number: usize,

@@ -15,13 +15,10 @@ fn is_plain(word: &[u8]) -> bool
     }
 }
 
-fn digit(byte: u8) -> Option<u8>
+fn digit(byte: u8) -> Option<u32>
     ensures { result ≡ digit_of byte }
 {
-    match byte {
-        b'0'..=b'9' => Some(byte - b'0'),
-        _ => None,
-    }
+    char::from(byte).to_digit(10)
 }
 
 // number = "0" | a digit from 1 to 9, then digits; at most `top`

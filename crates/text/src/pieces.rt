@@ -3,8 +3,9 @@ ghost use Rattle.std.specs.Prelude.{◌≡◌, [], Some, MatchOption};
 ghost use Rattle.std.specs.Iterator.{item_count};
 ghost use Rattle.text.specs.Pieces.{pieces, left, TakenFrom};
 
-// What is left of a text to be cut at a separator; none once the last piece is taken.
-#[derive(Clone, Copy)]
+// What is left of a text to be cut at a separator; none once the last piece is taken. Unlike the library's `split`, it has no
+// closure in its type, and says of a piece where in the text it lies.
+#[derive(Drop)]
 pub(crate) struct Pieces<'a> {
     separator: u8,
     rest: Option<&'a [u8]>,

@@ -23,6 +23,7 @@ fn push_number(out: &mut String, number: u32) -> Result<(), AllocError>
     out.push_str(Buffer::new().format(number))
 }
 
+// By recursion, since each byte is one step of it: four bytes in a row would be seven writes, each with its error.
 // The lowest bytes of a number, `more` and one, with full stops between them.
 fn push_bytes(out: &mut String, more: u8, number: u32) -> Result<(), AllocError>
     ensures { Appended result (string_bytes out.old) (bytes_text more number) (string_bytes out.new) }

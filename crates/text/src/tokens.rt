@@ -34,8 +34,7 @@ impl<'a> Token<'a> {
         ensures { result ≡ column_of self.entry }
     {
         match self {
-            Token::Star { column } => column,
-            Token::Word { column, .. } => column,
+            Token::Star { column } | Token::Word { column, .. } => column,
         }
     }
 }

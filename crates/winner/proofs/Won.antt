@@ -1,5 +1,5 @@
 -- The line of the first text over that of the second. Assumes nothing.
-use Rattle.std.proofs.Common.{◌≡◌, ℕ, eqb, List, Some, None, Ok, Option, refl, ap, ◌∙◌, Bor}
+use Rattle.std.proofs.Common.{ℕ, eqb, List, Some, None, Ok, Option, refl, ap, ◌∙◌, Bor}
 use Rattle.std.proofs.lemmas.Bool.{eq-eqb, cond-true, cond-false}
 use Rattle.policy.specs.Layers.{over}
 use Rattle.text.specs.Readings.{read_of}

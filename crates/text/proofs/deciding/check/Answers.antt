@@ -1,17 +1,11 @@
-use Rattle.std.proofs.Common.{◌+◌, [], length, sym, refl, ap, ◌∙◌, rules}
+use Rattle.std.proofs.Common.{sym, refl, ap, ◌∙◌}
 use Rattle.std.proofs.lemmas.Result.{err_from_is_err_and}
-use Rattle.std.proofs.lemmas.Bool.{le-ltb, cond-false}
 use Rattle.text.specs.Reads.{reads}
 use Rattle.text.specs.Lines.{line_of}
-use Rattle.text.specs.Readings.{Reading, add_line, lines_from}
+use Rattle.text.specs.Readings.{Reading, add_line}
 use Rattle.text.proofs.Lined.{left_more, left_stop, left_end}
 use Rattle.text.proofs.Found.{counted_taken, counted_stop}
 use Rattle.text.proofs.deciding.check.Goals as goal
-
-pub loop-line-init : goal.loop-line-init
-loop-line-init g c =
-    let read = reads g.K.Kind in
-    ([], refl, search rules)
 
 pub loop-line-preserved : goal.loop-line-preserved
 loop-line-preserved g c =

@@ -1,21 +1,10 @@
-use Rattle.std.proofs.Common.{◌≡◌, ◌+◌, length, Some, sym, ap, ◌∙◌, subst, arith, rules, refl}
+use Rattle.std.proofs.Common.{◌+◌, length, ap, ◌∙◌, subst, refl}
 use Rattle.packet.specs.Packets.{values}
 use Rattle.text.specs.Reads.{reads}
-use Rattle.text.specs.Pieces.{pieces, left, LiesAt}
+use Rattle.text.specs.Pieces.{left}
 use Rattle.text.specs.DecidingLines.{first_line}
-use Rattle.text.proofs.Found.{Cut, cut_whole, cut_bytes, cut_within, cut_more, line_here, line_later, line_none}
+use Rattle.text.proofs.Found.{Cut, cut_bytes, cut_within, cut_more, line_here, line_later, line_none}
 use Rattle.text.proofs.deciding.first_line.Goals as goal
-
-pub loop-line-init : goal.loop-line-init
-loop-line-init g c =
-    let lines = c.into_iter-line-iterator.result.pieces in
-    let all : left lines ≡ pieces 10 c.args.text.bytes.now = search rules in
-    let place : lines.rest ≡ Some c.args.text.bytes = search rules in (
-      0,
-      subst (LiesAt c.args.text.bytes 0) (sym place) (refl, search rules),
-      cut_whole c.args.text.bytes.now (left lines) all,
-      ap (first_line (reads g.K.Kind) (values c.args.packet) 0) (sym all),
-    )
 
 pub returns-then-line_holds : goal.returns-then-line_holds
 returns-then-line_holds g c =

@@ -1,5 +1,5 @@
 use Rattle.std.proofs.Common.{◌≡◌, ℕ, ◌<◌, ◌≤◌, length, get_or, string_bytes, sym, ◌∙◌, subst, arith}
-use Rattle.text.proofs.Appends.{appended_begins, cut_back, nothing_written, boundary_behind}
+use Rattle.text.proofs.Appends.{appended_begins, boundary_behind}
 use Rattle.text.proofs.print.print_line.Goals as goal
 
 pub truncate-requires : goal.truncate-requires
@@ -12,8 +12,3 @@ truncate-requires g c =
       λ some short high. subst (λ (n : ℕ). 192 ≤ get_or after n 0) (sym long)
           (boundary_behind _ begins.0 after c.args.out.now.ok c.push_line-printed.new.out.ok begins.1 (subst (λ (n : ℕ). n < length after) long short) (subst (λ (n : ℕ). 128 ≤ get_or after n 0) long high)),
     )
-
-pub returns-then-is_err : goal.returns-then-is_err
-returns-then-is_err g c =
-    c.truncate.ensures.bytes ∙ cut_back c.push_line-printed.result _ _ _ _ (c.len-length.ensures ∙ c.args.out.now.bytes.ok.0) c.push_line-printed.ensures
-    ∙ nothing_written c.push_line-printed.result _ _ c.if-is_err.ensures.value

@@ -1,5 +1,5 @@
 use Rattle.std.proofs.Common.{◌++◌, string_bytes, sym, ap, ◌∙◌}
-use Rattle.text.proofs.Appends.{appended_as, appended_joined, appended_break, range_whole, range_single, range_double}
+use Rattle.text.proofs.Appends.{appended_as, appended_joined, range_whole, range_single, range_double}
 use Rattle.text.proofs.print.push_range.Goals as goal
 
 pub returns-then-is_whole : goal.returns-then-is_whole
@@ -8,10 +8,6 @@ returns-then-is_whole c = appended_as c.push_letter.result _ _ _ _ (range_whole 
 pub returns-then-range : goal.returns-then-range
 returns-then-range c =
     c.in_ok-push_value.ensures ∙ ap (λ t. string_bytes c.args.out.now ++ t) (sym (range_single c.args.field c.args.range c.if-is_whole.ensures c.if-range.true))
-
-pub returns-in_err-push_letter : goal.returns-in_err-push_letter
-returns-in_err-push_letter c =
-    appended_break c.from_residual-in_err-push_letter.result _ _ _ _ _ c.from_residual-in_err-push_letter.ensures.0 c.in_ok-push_value.ensures c.in_err-push_letter.ensures
 
 pub returns : goal.returns
 returns c =

@@ -1,4 +1,4 @@
-use Rattle.std.proofs.Common.{◌≡◌, ℕ, ◌-◌, ◌≤◌, List, ◌++◌, drop, string_bytes}
+use Rattle.std.proofs.Common.{◌≡◌, ℕ, List, ◌++◌, drop, string_bytes}
 use Rattle.packet.specs.Regions.{ranges}
 use Rattle.text.specs.Fields.{fields}
 use Rattle.text.specs.Printing.{ranges_text}

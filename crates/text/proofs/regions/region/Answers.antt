@@ -45,9 +45,9 @@ loop-field-preserved c =
     let now_placed = placed (field c.loop-field.field-index) c.loop-field.field-index (ranges c.loop-field.region) (ranges c.with-region.result) c.in_ok-range.field-0
     (field_nth c.loop-field.field-index c.loop-field-test.true) refl (range_sound (field c.loop-field.field-index) _ _ _ read) c.with-region.ensures in
     c.loop-field.invariant
-          ∙ ap (λ ws. before so_far (ranges_from (drop c.loop-field.field-index fields) c.loop-field.words.column ws)) taken.words_are
-          ∙ ranges_more (field c.loop-field.field-index) c.loop-field.field-index (field_nth c.loop-field.field-index c.loop-field-test.true) c.loop-field.words.column _ _ _ _ so_far read taken.moved
-          ∙ ap (λ rs. before rs (ranges_from (drop (c.loop-field.field-index + 1) fields) c.next.new.self.column (left c.next.new.self.words))) (sym now_placed)
+    ∙ ap (λ ws. before so_far (ranges_from (drop c.loop-field.field-index fields) c.loop-field.words.column ws)) taken.words_are
+    ∙ ranges_more (field c.loop-field.field-index) c.loop-field.field-index (field_nth c.loop-field.field-index c.loop-field-test.true) c.loop-field.words.column _ _ _ _ so_far read taken.moved
+    ∙ ap (λ rs. before rs (ranges_from (drop (c.loop-field.field-index + 1) fields) c.next.new.self.column (left c.next.new.self.words))) (sym now_placed)
 
 pub returns : goal.returns
 returns c =
