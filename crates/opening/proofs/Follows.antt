@@ -1,7 +1,8 @@
 -- May one row stand right behind another? By the place of the first field in which they differ. Assumes nothing.
-use Rattle.std.proofs.Common.{◌≡◌, ℕ, zero, suc, ◌+◌, ◌<◌, ◌≤◌, Bool, true, false, cond, not, ◌&&◌, eqb, List, [], ◌∷◌, length, get_or, drop, Some, None, refl, ap, ◌∙◌, inl, inr, arith}
+use Rattle.std.proofs.Common.{◌≡◌, ℕ, zero, suc, ◌+◌, ◌<◌, ◌≤◌, Bool, true, false, cond, not, ◌&&◌, eqb, List, [], ◌∷◌, length, get_or, drop, Some, None, refl, ap, ◌∙◌, sym, inl, inr, arith}
 use Rattle.std.specs.List.{list_all, list_any, position, position_or_len, zip}
-use Rattle.std.proofs.lemmas.Bool.{cases_lt, lt-ltb, le-ltb}
+use Rattle.std.proofs.lemmas.Bool.{cases_lt, lt-ltb, ltb-true}
+use Rattle.std.proofs.lemmas.Option.{none-some, cond_some}
 use Rattle.packet.specs.declared.range.Range.{Range}
 use Rattle.packet.specs.Regions.{reversed, any_reversed}
 use Rattle.theory.specs.Steps.{follows, at_start, at_end}
@@ -83,25 +84,12 @@ follows_at (top ∷ rest) (r ∷ a) (s ∷ b) d x y h = go (follows_at rest a b 
 -- where the first two that differ stand, and what if none do
 module _ (a b : List (Range ℕ)) (same : length a ≡ length b) where
   pub difference_some : (f : ℕ) → position differ (zip a b) ≡ Some f → (f < length a) × (f ≡ first_difference a b)
-  difference_some f e = elim (cases_lt (position_or_len differ (zip a b)) (length (zip a b))) [
-    | inl h ↦
-        let t = lt-ltb _ _ h in
-        let is : f ≡ position_or_len differ (zip a b) = some_one _ _ (rw t at e) in
-        (omega (arith, is, h, length_pairs a b same), is ∙ differ_at a b same)
-    | inr h ↦ let t = le-ltb _ _ h in absurd (none_one _ (rw t at e))
-  ]
-    where
-      some_one : (m n : ℕ) → Some m ≡ Some n → n ≡ m
-      some_one m n e = cc
-
-      none_one : (n : ℕ) → None ≡ Some n → ⊥
-      none_one n e = let z : ◌≡◌ {A = ℕ} 0 1 = cc in omega arith
+  difference_some f e =
+      let s = cond_some _ _ _ e in
+      (omega (arith, s.1, ltb-true _ _ s.0, length_pairs a b same), sym s.1 ∙ differ_at a b same)
 
   pub difference_none : position differ (zip a b) ≡ None → length a ≤ first_difference a b
   difference_none e = elim (cases_lt (position_or_len differ (zip a b)) (length (zip a b))) [
-    | inl h ↦ let t = lt-ltb _ _ h in absurd (some_none _ (rw t at e))
+    | inl h ↦ let t = lt-ltb _ _ h in absurd (none-some _ (sym (rw t at e)))
     | inr h ↦ omega (arith, h, length_pairs a b same, differ_at a b same)
   ]
-    where
-      some_none : (n : ℕ) → Some n ≡ None → ⊥
-      some_none n e = let z : ◌≡◌ {A = ℕ} 0 1 = cc in omega arith

@@ -2,6 +2,7 @@
 use Rattle.std.proofs.Common.{◌≡◌, ℕ, ◌<◌, Bool, false, not, ltb, List, [], ◌∷◌, length, get_or, Some, None, Option, MatchOption, sym, ap, ◌∙◌, inl, inr, refl, eqb, arith}
 use Rattle.std.specs.List.{list_all, find, position, position_or_len, zip}
 use Rattle.std.proofs.lemmas.Bool.{cases_lt, lt-ltb, le-ltb, lt-leb, le-leb}
+use Rattle.std.proofs.lemmas.Option.{none-some}
 use Rattle.std.proofs.lemmas.List.Quantifiers.{position-Some}
 use Rattle.std.proofs.lemmas.List.Sums.{fails_before_first}
 use Rattle.packet.specs.declared.range.Range.{Range}
@@ -15,9 +16,6 @@ use Rattle.opening.specs.Firsts.{some_found, none_found, first_found, none_first
 pub zero_is : (bytes : List ℕ) → all_zero bytes ≡ list_all (λ b. eqb b 0) bytes
 zero_is [] = refl
 zero_is (b ∷ bytes) = rw (zero_is bytes)
-
-some_none : (k : ℕ) → Some k ≡ None → ⊥
-some_none k e = let z : ◌≡◌ {A = ℕ} 0 1 = cc in omega arith
 
 -- the first damage of rows is at the first that passes a test
 module _ (test : List ℕ → Bool) (at : ℕ → Damage) (rows : List (List ℕ)) (n : ℕ) (size : n ≡ length rows) (row : ℕ → List ℕ) (is : (j : ℕ) → j < n → get_or rows j [] ≡ row j) where
@@ -35,7 +33,7 @@ module _ (test : List ℕ → Bool) (at : ℕ → Damage) (rows : List (List ℕ
 
   pub first_nowhere : position test rows ≡ None → first n finds ≡ None
   first_nowhere e = elim (cases_lt (position_or_len test rows) (length rows)) [
-    | inl h ↦ let t = lt-ltb _ _ h in absurd (some_none _ (rw t at e))
+    | inl h ↦ let t = lt-ltb _ _ h in absurd (none-some _ (sym (rw t at e)))
     | inr h ↦ none_first n finds (λ j l. fails j l (fails_before_first test rows j [] (omega (arith, h, l, size))))
   ]
 

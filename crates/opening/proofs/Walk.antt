@@ -2,6 +2,7 @@
 use Rattle.std.proofs.Common.{◌≡◌, ℕ, zero, suc, ◌+◌, ◌<◌, ◌≤◌, min, Bool, true, false, eqb, List, [], ◌∷◌, ◌++◌, length, get_or, take, drop, set, sym, ap, ◌∙◌, subst, inl, inr, append_assoc, add-one, arith}
 use Rattle.std.proofs.lemmas.List.{drop_more, drop_all, take_all, take-set, take_more_set, get_or-set_same, append-nil}
 use Rattle.std.proofs.lemmas.Bool.{cases_Bool, cases_lt, both_ways, eqb-true, eq-eqb}
+use Rattle.packet.proofs.Values.{long}
 use Rattle.packet.specs.Packets.{tops, Within}
 use Rattle.packet.specs.Regions.{range_at}
 use Rattle.theory.specs.Tables.{Row, lookup, Nested}
@@ -16,12 +17,6 @@ same_test a b f g = elim (cases_Bool a) [
   | inl t ↦ t ∙ sym (f t)
   | inr t ↦ elim (cases_Bool b) [ inl u ↦ g u ∙ sym u | inr u ↦ t ∙ sym u ]
 ]
-
-within_length : (ts p : List ℕ) → Within ts p → length p ≡ length ts
-within_length [] [] w = omega arith
-within_length [] (v ∷ p) w = absurd w
-within_length (top ∷ rest) [] w = absurd w
-within_length (top ∷ rest) (v ∷ p) w = omega (arith, within_length rest p w.1)
 
 -- another value of one field, if it is a value of the field, makes another packet
 pub within_set : (ts p : List ℕ) (f v : ℕ) → Within ts p → f < length ts → v ≤ get_or ts f 0 → Within ts (set p f v)
@@ -44,7 +39,7 @@ module _ (rows : List Row) (f : ℕ) (p q : List ℕ) where
   at_leaf w u h =
       let tells = alike_tells (drop f tops) (left_of p) (left_of q) in
       let none : drop f tops ≡ [] = drop_all f tops h in
-      let all : (a : List ℕ) → Within tops a → take f a ++ [] ≡ a = λ a i. append-nil (take f a) ∙ take_all f a (omega (arith, within_length tops a i)) in
+      let all : (a : List ℕ) → Within tops a → take f a ++ [] ≡ a = λ a i. append-nil (take f a) ∙ take_all f a (omega (arith, long tops a i)) in
       same_test _ _
       (λ t. tells.1 (λ s i. only s (subst (λ ts. Within ts s) none i) (ap (lookup rows) (all p w) ∙ eqb-true _ _ t ∙ sym (ap (lookup rows) (all q u)))))
       (λ t. eq-eqb _ _ (sym (ap (lookup rows) (all p w)) ∙ tells.0 t [] (subst (λ ts. Within ts []) (sym none) tt) ∙ ap (lookup rows) (all q u)))
@@ -67,7 +62,7 @@ module _ (rows : List Row) (f : ℕ) (p q : List ℕ) where
 
     module _ (nested : Nested tops rows) (w : Within tops p) (u : Within tops q) (v : ℕ) (most : v ≤ get_or tops f 0) (p1 q1 : List ℕ) (pe : p1 ≡ set p f v) (qe : q1 ≡ set q f v) where
       one_more : (a b : List ℕ) → Within tops a → b ≡ set a f v → (s : List ℕ) → take (f + 1) b ++ s ≡ take f a ++ (v ∷ s)
-      one_more a b i e s = ap (λ l. take (f + 1) l ++ s) e ∙ ap (λ l. l ++ s) (take_more_set a f v (omega (arith, within_length tops a i))) ∙ append_assoc (take f a) (v ∷ []) s
+      one_more a b i e s = ap (λ l. take (f + 1) l ++ s) e ∙ ap (λ l. l ++ s) (take_more_set a f v (omega (arith, long tops a i))) ∙ append_assoc (take f a) (v ∷ []) s
 
       -- the values of the later fields, under the value v, are decided as the next field's walk tells
       under_value : alike (drop (f + 1) tops) (λ s. lookup rows (take (f + 1) p1 ++ s)) (λ s. lookup rows (take (f + 1) q1 ++ s)) ≡ true
@@ -94,7 +89,7 @@ module _ (rows : List Row) (f : ℕ) (p q : List ℕ) where
       as_value a b i e x rest l h k =
           let wb : Within tops b = subst (Within tops) (sym e) (within_set tops a f v i below most) in
           let r = reaches tops rows nested b wb f below in
-          let at : get_or b f 0 ≡ v = ap (λ l. get_or l f 0) e ∙ get_or-set_same a f v 0 (omega (arith, within_length tops a i)) in
+          let at : get_or b f 0 ≡ v = ap (λ l. get_or l f 0) e ∙ get_or-set_same a f v 0 (omega (arith, long tops a i)) in
           let same : take f b ≡ take f a = ap (take f) e ∙ take-set a f v in
           ap (λ l. lookup rows (l ++ (x ∷ rest))) (sym same)
           ∙ r.alike x v rest k (omega (arith, r.low, at)) h (omega (arith, r.low, at)) (omega (arith, r.high, at))
@@ -114,6 +109,6 @@ module _ (rows : List Row) (f : ℕ) (p q : List ℕ) where
       end_from end e =
           let bounds : (a b : List ℕ) → Within tops a → b ≡ set a f v → (v ≤ (range_at (held rows b) f).high) × ((range_at (held rows b) f).high ≤ get_or tops f 0) = λ a b i k.
           let r = reaches tops rows nested b (subst (Within tops) (sym k) (within_set tops a f v i below most)) f below in
-          let at : get_or b f 0 ≡ v = ap (λ l. get_or l f 0) k ∙ get_or-set_same a f v 0 (omega (arith, within_length tops a i)) in
+          let at : get_or b f 0 ≡ v = ap (λ l. get_or l f 0) k ∙ get_or-set_same a f v 0 (omega (arith, long tops a i)) in
           (omega (arith, r.high, at), r.most) in
           omega (arith, bounds p p1 w pe, bounds q q1 u qe)

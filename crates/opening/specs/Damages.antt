@@ -41,9 +41,13 @@ abbrev pub all_zero : List ℕ → Bool
 all_zero [] = true
 all_zero (b ∷ bytes) = b == 0 && all_zero bytes
 
--- are the block's count and number right, and its unused bytes 0?
+-- are a block's count and number right, and its unused bytes 0?
+abbrev pub framed_block : Bool → ℕ → List ℕ → Bool
+framed_block last k block = is_count last (count_in block) && number_in block == k && all_zero (unused_in block)
+
+-- are those of the block with a number?
 abbrev pub framed : List ℕ → ℕ → Bool
-framed bytes k = is_count (nat_le (blocks_in bytes) (suc k)) (count_in (block_at bytes k)) && number_in (block_at bytes k) == k && all_zero (unused_in (block_at bytes k))
+framed bytes k = framed_block (nat_le (blocks_in bytes) (suc k)) k (block_at bytes k)
 
 -- has the row another kind's number, or a decision that is none of the kind's?
 abbrev pub foreign_row : ℕ → ℕ → List ℕ → Bool

@@ -8,6 +8,7 @@ ghost use Rattle.opening.specs.Answers.{unless};
 ghost use Rattle.opening.specs.Damages.{neighbour_damage};
 
 use crate::nesting::first_difference;
+use crate::reading::low_ends;
 use crate::search::Nested;
 use damage::Damage;
 use packet::{Field, Packet};
@@ -29,12 +30,13 @@ fn starts_alike(nested: &Nested<'_>, row: usize) -> bool
     requires { (0 < row) × (row < nested.now.rows.count) }
     ensures { result ≡ starts_alike tops (rows_in nested.now.rows.bytes.now) row }
 {
-    let rows = nested.rows;
-    let field = match first_difference(&rows.ranges(row - 1), &rows.ranges(row)) {
+    let left = nested.rows.ranges(row - 1);
+    let right = nested.rows.ranges(row);
+    let field = match first_difference(&left, &right) {
         Some(field) => field + 1,
         None => Field::COUNT,
     };
-    are_alike(nested, field, rows.low_ends(row - 1), rows.low_ends(row))
+    are_alike(nested, field, low_ends(&left), low_ends(&right))
 }
 
 // Do all values of the fields from `field` on get equal decisions, under the values of `left` and of `right` on the fields before?

@@ -3,7 +3,7 @@ ghost use Rattle.std.specs.Prelude.{◌≡◌, ◌+◌, ◌*◌, ◌/◌, ◌<�
 ghost use Rattle.std.specs.List.{list_all, position};
 ghost use Rattle.blocks.specs.Reading.{count_in, number_in, unused_in};
 ghost use Rattle.opening.specs.Answers.{unless};
-ghost use Rattle.opening.specs.Damages.{is_count, all_zero, foreign_row, found, first, block_damage};
+ghost use Rattle.opening.specs.Damages.{is_count, framed_block, foreign_row, found, first, block_damage};
 ghost use Rattle.damage.specs.declared.damage.Damage.TheVariants.{Foreign};
 
 use crate::reading::{DECISION, KIND, number_of};
@@ -32,7 +32,7 @@ pub(crate) fn check_block<K: Kind>(bytes: &[u8], number: usize) -> Result<(), Da
 // The block's count of rows, if this and its number are right, and its unused bytes 0.
 #[tactic(auto, using(crate::proofs::Tests::zero_is))]
 fn framed_count(block: &[u8; BLOCK_BYTES], number: usize, is_last: bool) -> Option<usize>
-    ensures { MatchOption result ((is_count is_last (count_in block.now) && number_in block.now == number && all_zero (unused_in block.now)) ≡ false) (λ count. (count ≡ count_in block.now) × (count ≤ 18) × ((is_count is_last (count_in block.now) && number_in block.now == number && all_zero (unused_in block.now)) ≡ true)) }
+    ensures { MatchOption result (framed_block is_last number block.now ≡ false) (λ count. (count ≡ count_in block.now) × (count ≤ 18) × (framed_block is_last number block.now ≡ true)) }
 {
     let count = number_of(&block[..2]) as usize;
     if is_count(count, is_last)

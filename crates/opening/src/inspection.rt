@@ -21,6 +21,7 @@ use packet::Packet;
 const MOST_BYTES: usize = 32_768;
 
 // The count of rows, or the first damage. Nothing is allocated.
+#[tactic(auto, using(crate::specs::WordsLemmas::says))]
 pub fn inspect<K: Kind>(bytes: &[u8]) -> Result<usize, Damage>
     ensures answer { result ≡ inspected K.Kind.NUMBER K.Kind.COUNT bytes.now }
     ensures words { Says (damage_of K.Kind.NUMBER K.Kind.COUNT bytes.now) (rows_in bytes.now) }

@@ -9,7 +9,8 @@ use std::marker::PhantomData;
 mod opened;
 pub mod source;
 
-// Packed bytes whose rows are nested, over decisions of the kind K. The table owns its bytes.
+// Packed bytes whose rows are nested, over decisions of the kind K. The table owns its bytes, since a source has no lifetime;
+// `nested` lends its rows.
 #[derive(Drop)]
 pub struct Table<K> {
     bytes: Vec<u8>,

@@ -49,13 +49,14 @@ pub(crate) fn ranges_in(row: &[u8; ROW_BYTES]) -> [Range<u32>; Field::COUNT]
     Field::ALL.map(|field| range_in(row, field))
 }
 
-// The packet of the low ends of a row's ranges.
-pub(crate) fn low_ends_in(row: &[u8; ROW_BYTES]) -> Packet
-    ensures { values result ≡ map (λ (range : Span ℕ). range.low) (ranges_of widths row.now) }
+// The packet of the ranges' low ends.
+pub(crate) fn low_ends(ranges: &[Range<u32>; Field::COUNT]) -> Packet
+    requires { Fit tops ranges.now }
+    ensures { values result ≡ map (λ (range : Span ℕ). range.low) ranges.now }
 {
     let mut packet = Packet::default();
     for field in Field::ALL {
-        packet = packet.with(field, range_in(row, field).low);
+        packet = packet.with(field, ranges[field.index()].low);
     }
     packet
 }

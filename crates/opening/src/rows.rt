@@ -6,10 +6,10 @@ ghost use Rattle.packet.specs.Regions.{Fit};
 ghost use Rattle.blocks.specs.Writing.{widths};
 ghost use Rattle.blocks.specs.Reading.{ranges_of, block_at, row_slice, row_count};
 
-use crate::reading::{low_ends_in, ranges_in};
+use crate::reading::ranges_in;
 use blocks::check::BODY_BYTES;
 use blocks::{BLOCK_BYTES, BLOCK_ROWS, ROW_BYTES};
-use packet::{Field, Packet, Range};
+use packet::{Field, Range};
 
 // Where the rows of a block begin.
 pub(crate) const FIRST_ROW: usize = 4;
@@ -58,13 +58,5 @@ impl Rows<'_> {
         ensures fit { Fit tops result }
     {
         ranges_in(self.row(index))
-    }
-
-    // The packet of their low ends.
-    pub(crate) fn low_ends(&self, index: usize) -> Packet
-        requires { index < self.now.count }
-        ensures { values result ≡ map (λ (range : Span ℕ). range.low) (ranges_of widths (row_slice self.now.bytes.now index)) }
-    {
-        low_ends_in(self.row(index))
     }
 }

@@ -1,6 +1,6 @@
 use Rattle.std.proofs.Common.{rules, ◌≡◌, ℕ, suc, ◌+◌, ◌<◌, ◌≤◌, min, eqb, true, false, List, ◌++◌, length, get_or, set, take, drop, sym, ap, ◌∙◌, subst, ap₂, add-one, arith}
 use Rattle.packet.specs.declared.field.Field.{Field}
-use Rattle.packet.specs.declared.field.Field.TheVariants.{Source, SourcePort, Destination, DestinationPort, Protocol}
+use Rattle.packet.proofs.Values.{place_few}
 use Rattle.packet.specs.Packets.{values, tops, place, Within}
 use Rattle.packet.specs.Regions.{range_at}
 use Rattle.theory.specs.Tables.{Nested, lookup}
@@ -12,13 +12,6 @@ use Rattle.blocks.specs.Reading.{rows_in}
 use Rattle.opening.proofs.Walk.{Agrees, left_of, at_leaf, all_agree, not_alike, agree_more, end_from}
 use Rattle.opening.proofs.alike.+are_alike.Goals as goal
 
-place_below : (f : Field) → place f < length tops
-place_below Source = omega arith
-place_below SourcePort = omega arith
-place_below Destination = omega arith
-place_below DestinationPort = omega arith
-place_below Protocol = omega arith
-
 -- a packet with another value of a field
 changed : (ps : List ℕ) (qs : List ℕ) (here : Field) (field v : ℕ) → place here ≡ field → v ≤ get_or tops field 0 → qs ≡ set ps (place here) (min v (get_or tops (place here) 0)) → qs ≡ set ps field v
 changed ps qs here field v h k e =
@@ -29,7 +22,7 @@ changed ps qs here field v h k e =
 module _ (bytes : List ℕ) (passed : passes tops (rows_in bytes) ≡ true) (here : Field) (field : ℕ) (is : place here ≡ field) (p q : List ℕ) (w : Within tops p) (u : Within tops q) (v : ℕ) (most : v ≤ get_or tops field 0)
     (first second : List ℕ) (a : first ≡ set p (place here) (min v (get_or tops (place here) 0))) (b : second ≡ set q (place here) (min v (get_or tops (place here) 0))) where
   below : field < length tops
-  below = omega (arith, place_below here, is)
+  below = omega (arith, place_few here, is)
 
   nested : Nested tops (rows_in bytes)
   nested = passes_nested tops (rows_in bytes) passed

@@ -42,10 +42,10 @@ returns c =
     let rows = c.args.nested.now.rows in
     let bytes = rows.bytes.now in
     let row = c.args.row in
-    let a = c.ranges-2.result in
-    let b = c.ranges-3.result in
-    let left : length a ≡ 5 = ap length c.ranges-2.ensures.value in
-    let right : length b ≡ 5 = ap length c.ranges-3.ensures.value in
+    let a = c.ranges-left.result in
+    let b = c.ranges-right.result in
+    let left : length a ≡ 5 = ap length c.ranges-left.ensures.value in
+    let right : length b ≡ 5 = ap length c.ranges-right.ensures.value in
     let field : (c.match-first_difference.field ≡ suc (first_difference a b)) ⊎ ((c.match-first_difference.field ≡ 5) × (5 ≤ first_difference a b)) = elim c.match-first_difference.branch [
       | in-Some w ↦ inl (omega (arith, w.field-is, (difference_some a b (omega (arith, left, right)) w.in-Some.field (sym w.in-Some.ensures.value)).1))
       | in-None w ↦ inr (w.field-is, omega (arith, left, difference_none a b (omega (arith, left, right)) (sym w.in-None.ensures.value)))
@@ -53,8 +53,8 @@ returns c =
     c.are_alike.ensures
     ∙ behind (rows_in bytes) c.match-first_difference.field (first_difference a b) (values c.low_ends.result) (values c.low_ends-2.result) (omega arith) (omega arith) field
     ∙ starts (rows_in bytes) row c.requires.0 a b
-    (c.ranges-2.ensures.value ∙ sym (ranges_are bytes (row - 1) (omega (arith, c.requires.1, rows.counted))))
-    (c.ranges-3.ensures.value ∙ sym (ranges_are bytes row (omega (arith, c.requires.1, rows.counted))))
+    (c.ranges-left.ensures.value ∙ sym (ranges_are bytes (row - 1) (omega (arith, c.requires.1, rows.counted))))
+    (c.ranges-right.ensures.value ∙ sym (ranges_are bytes row (omega (arith, c.requires.1, rows.counted))))
     (values c.low_ends.result) (values c.low_ends-2.result)
-    (c.low_ends.ensures ∙ sym (ap lows c.ranges-2.ensures.value))
-    (c.low_ends-2.ensures ∙ sym (ap lows c.ranges-3.ensures.value))
+    c.low_ends.ensures
+    c.low_ends-2.ensures

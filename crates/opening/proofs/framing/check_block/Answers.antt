@@ -1,10 +1,10 @@
-use Rattle.std.proofs.Common.{◌≡◌, ℕ, ◌+◌, ◌*◌, ◌/◌, ◌%◌, ◌<◌, ◌≤◌, Bool, true, false, not, ◌&&◌, eqb, leb, List, take, drop, Some, sym, ap, ◌∙◌, ap₂, add-one, arith}
+use Rattle.std.proofs.Common.{◌≡◌, ℕ, ◌+◌, ◌*◌, ◌/◌, ◌%◌, ◌<◌, ◌≤◌, Bool, true, false, not, eqb, leb, List, take, drop, Some, sym, ap, ◌∙◌, ap₂, add-one, arith}
 use Rattle.std.proofs.lemmas.Bool.{ne_eqb, eq-eqb, not_from_true, not_from_false}
 use Rattle.damage.specs.declared.damage.Damage.TheVariants.{Check, Frame, Foreign}
 use Rattle.blocks.specs.Writing.{check_sum}
-use Rattle.blocks.specs.Reading.{block_at, blocks_in, count_in, number_in, check_in, unused_in, row_slice}
+use Rattle.blocks.specs.Reading.{block_at, blocks_in, count_in, check_in, row_slice}
 use Rattle.opening.specs.Answers.{unless}
-use Rattle.opening.specs.Damages.{is_count, all_zero, wrong_check, framed, foreign, foreign_row, found, first, block_damage}
+use Rattle.opening.specs.Damages.{framed_block, wrong_check, framed, foreign, foreign_row, found, first, block_damage}
 use Rattle.opening.specs.Firsts.{some_found, none_found, or_first, or_second, first_same}
 use Rattle.opening.proofs.Chunks.{row_place}
 use Rattle.opening.proofs.framing.check_block.Goals as goal
@@ -34,9 +34,9 @@ module _ (bytes : List ℕ) (k : ℕ) (block : List ℕ) (is : block ≡ block_a
   check_is : (check sum : ℕ) → check ≡ check_in block → sum ≡ check_sum (take 508 block) → (wrong : Bool) → not (eqb check sum) ≡ wrong → wrong_check bytes k ≡ wrong
   check_is check sum c s wrong e = ap₂ (λ x y. not (eqb x y)) (sym (c ∙ ap check_in is)) (sym (s ∙ ap (λ (b : List ℕ). check_sum (take 508 b)) is)) ∙ e
 
-  framed_is : (t : Bool) → (is_count (leb (blocks_in bytes) (k + 1)) (count_in block) && eqb (number_in block) k && all_zero (unused_in block)) ≡ t → framed bytes k ≡ t
+  framed_is : (t : Bool) → framed_block (leb (blocks_in bytes) (k + 1)) k block ≡ t → framed bytes k ≡ t
   framed_is t e =
-      sym (ap₂ (λ m (b : List ℕ). is_count (leb (blocks_in bytes) m) (count_in b) && eqb (number_in b) k && all_zero (unused_in b)) (add-one k) is) ∙ e
+      sym (ap₂ (λ m (b : List ℕ). framed_block (leb (blocks_in bytes) m) k b) (add-one k) is) ∙ e
 
   rows_are : (label size count : ℕ) → count ≡ count_in block → count ≤ 18
       → first count (λ j. found (foreign_row label size (take 28 (drop (4 + 28 * j) block))) (Foreign (18 * k + j)))

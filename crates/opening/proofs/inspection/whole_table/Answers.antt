@@ -41,7 +41,7 @@ returns-in_err-check_block g c =
     let size = g.K.Kind.COUNT in
     let bytes = c.args.bytes.now in
     let good = right_length bytes c.if-is_empty.ensures c.if-bytes-ne0.false c.if-bytes-gt-MOST_BYTES.false in
-    erred _ _ _ _ c.from_residual.ensures.1 (by_block label size bytes good c.loop-number.number _ c.loop-number-test.true c.loop-number.invariant (was_damage _ _ tt c.in_err-check_block.ensures))
+    erred _ (damage_of label size bytes) _ _ c.from_residual.ensures.1 (by_block label size bytes good c.loop-number.number _ c.loop-number-test.true c.loop-number.invariant (was_damage (block_damage label size bytes c.loop-number.number) _ tt c.in_err-check_block.ensures))
 
 pub loop-number-preserved : goal.loop-number-preserved
 loop-number-preserved g c =

@@ -1,4 +1,4 @@
-use Rattle.std.proofs.Common.{◌≡◌, ℕ, suc, ◌+◌, ◌<◌, Bool, true, false, ◌&&◌, eqb, List, length, get_or, drop, Some, sym, refl, ap, ◌∙◌, ap₂, add-one, arith}
+use Rattle.std.proofs.Common.{◌≡◌, ℕ, suc, ◌+◌, Bool, true, false, ◌&&◌, eqb, List, length, get_or, drop, Some, sym, refl, ap, ◌∙◌, ap₂, add-one, arith}
 use Rattle.std.specs.List.{list_all, zip, position}
 use Rattle.std.proofs.lemmas.Bool.{ne_eqb, eq-eqb}
 use Rattle.packet.specs.declared.range.Range.{Range}
@@ -8,9 +8,6 @@ use Rattle.opening.proofs.Follows.{differ, difference_some, difference_none, fol
 use Rattle.opening.proofs.nesting.follow.Goals as goal
 
 module _ (a b : List (Range ℕ)) (x : length a ≡ length tops) (y : length b ≡ length tops) where
-  below : (f : ℕ) → Some f ≡ position differ (zip a b) → f < length tops
-  below f e = omega (arith, (difference_some a b (omega arith) f (sym e)).0)
-
   module _ (f : ℕ) (e : Some f ≡ position differ (zip a b)) where
     abbrev none : Range ℕ
     none = record { low = 0; high = 0 }

@@ -1,7 +1,7 @@
-use Rattle.std.proofs.Common.{◌≡◌, ℕ, ◌+◌, ◌-◌, ◌<◌, List, length, get_or, take, drop, sym, ap, ◌∙◌, ap₂, arith}
+use Rattle.std.proofs.Common.{◌≡◌, ℕ, ◌+◌, ◌-◌, List, get_or, take, drop, sym, ap, ◌∙◌, ap₂, arith}
 use Rattle.packet.specs.declared.range.Range.{Range}
 use Rattle.packet.specs.declared.field.Field.{Field}
-use Rattle.packet.specs.declared.field.Field.TheVariants.{Source, SourcePort, Destination, DestinationPort, Protocol}
+use Rattle.packet.proofs.Values.{place_few}
 use Rattle.packet.specs.Packets.{place}
 use Rattle.packet.specs.Regions.{range_at}
 use Rattle.blocks.specs.Numbers.{number_of}
@@ -10,20 +10,13 @@ use Rattle.blocks.specs.Reading.{ranges_of, field_start}
 use Rattle.blocks.proofs.Rows.{range_read}
 use Rattle.opening.proofs.reading.range_in.Goals as goal
 
-place_below : (f : Field) → place f < length widths
-place_below Source = omega arith
-place_below SourcePort = omega arith
-place_below Destination = omega arith
-place_below DestinationPort = omega arith
-place_below Protocol = omega arith
-
 is_range : (row : List ℕ) (f : Field) (start width low high : ℕ) → start ≡ field_start widths (place f) → width ≡ get_or widths (place f) 0
     → low ≡ number_of (take width (drop start row)) → high ≡ number_of (take width (drop (start + width) row))
     → ◌≡◌ {A = Range ℕ} (record { low = low; high = high }) (range_at (ranges_of widths row) (place f))
 is_range row f start width low high s w l h =
     let lows : low ≡ number_of (take (get_or widths (place f) 0) (drop (field_start widths (place f)) row)) = l ∙ ap₂ (λ a b. number_of (take b (drop a row))) s w in
     let highs : high ≡ number_of (take (get_or widths (place f) 0) (drop (field_start widths (place f) + get_or widths (place f) 0) row)) = h ∙ ap₂ (λ a b. number_of (take b (drop (a + b) row))) s w in
-    (λ i. record { low = lows i; high = highs i }) ∙ sym (range_read widths row (place f) (place_below f))
+    (λ i. record { low = lows i; high = highs i }) ∙ sym (range_read widths row (place f) (place_few f))
 
 -- a part from one place to another has their distance as its length
 part : (row : List ℕ) (start width : ℕ) → number_of (take (start + width - start) (drop start row)) ≡ number_of (take width (drop start row))
