@@ -105,6 +105,7 @@ fn of_kind<K: Kind>(heap: Global, call: &str, words: &[&str]) -> anyhow::Result<
     })
 }
 
+// A call and a kind are named by their words in one pattern each, so that a type for them would be used once.
 fn answer(heap: Global, case: &str) -> anyhow::Result<String> {
     let words: Vec<&str> = case.split(' ').collect(heap)?;
     match words.as_slice() {
