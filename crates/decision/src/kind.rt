@@ -2,8 +2,8 @@
 ghost use Rattle.std.specs.Prelude.{◌≡◌, ℕ, Bool, List};
 ghost use Rattle.decision.specs.Kinds.{Bounds, Lattice, Foreign, Words, known, both, read_word};
 
-// A kind's decisions are the numbers below its count. Each constant has a ghost member of its name beside it, by which contracts
-// name its value.
+// A kind's decisions are the numbers below its count. Each constant, and each function that a kind gives itself, has a ghost member of
+// its name beside it, by which contracts name its value.
 pub trait Kind {
     // The kind's number.
     const NUMBER: u8;
@@ -21,28 +21,28 @@ pub trait Kind {
     ghost SILENT: { ℕ };
 
     // is a below b?
-    ghost under: { ℕ → ℕ → Bool };
+    ghost below: { ℕ → ℕ → Bool };
 
     // the meet of two
-    ghost lower: { ℕ → ℕ → ℕ };
+    ghost meet: { ℕ → ℕ → ℕ };
 
     // the join of two
-    ghost upper: { ℕ → ℕ → ℕ };
+    ghost join: { ℕ → ℕ → ℕ };
 
     // the word of a decision
-    ghost spelling: { ℕ → List ℕ };
+    ghost word: { ℕ → List ℕ };
 
     fn below(a: u8, b: u8) -> bool
-        ensures { result ≡ under a b };
+        ensures { result ≡ below a b };
 
     fn meet(a: u8, b: u8) -> u8
-        ensures { result ≡ lower a b };
+        ensures { result ≡ meet a b };
 
     fn join(a: u8, b: u8) -> u8
-        ensures { result ≡ upper a b };
+        ensures { result ≡ join a b };
 
     fn word(decision: u8) -> &'static str
-        ensures { result.now ≡ spelling decision };
+        ensures { result.now ≡ word decision };
 
     // The decision itself, or the silent one for a number that is no decision of the kind.
     fn or_silent(decision: u8) -> u8
@@ -55,13 +55,13 @@ pub trait Kind {
         }
     }
 
-    // The decision other than the silent one that has this word.
+    // The decision other than the silent one that is written so.
     #[tactic(auto, using(crate::specs::Words::read_here, crate::specs::Words::read_other, crate::specs::Words::read_silent, crate::specs::Words::read_end))]
-    fn read(word: &[u8]) -> Option<u8>
-        ensures { result ≡ read_word COUNT SILENT spelling word.now }
+    fn read(text: &[u8]) -> Option<u8>
+        ensures { result ≡ read_word COUNT SILENT word text.now }
     {
         for decision in (0..Self::COUNT).rev() {
-            if decision != Self::SILENT && Self::word(decision).as_bytes() == word {
+            if decision != Self::SILENT && Self::word(decision).as_bytes() == text {
                 return Some(decision);
             }
         }
@@ -70,11 +70,11 @@ pub trait Kind {
 
     ghost bounds: { Bounds NUMBER COUNT SILENT };
 
-    ghost lattice: { Lattice COUNT under lower upper };
+    ghost lattice: { Lattice COUNT below meet join };
 
-    ghost foreign: { Foreign COUNT SILENT under lower upper };
+    ghost foreign: { Foreign COUNT SILENT below meet join };
 
-    ghost words: { Words COUNT SILENT spelling };
+    ghost words: { Words COUNT SILENT word };
 }
 
 // Are both numbers below the count, that is, decisions?

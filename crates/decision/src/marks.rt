@@ -22,13 +22,13 @@ impl Kind for Marks {
 
     ghost SILENT = { 0 };
 
-    ghost under = { known_below 16 contained };
+    ghost below = { known_below 16 contained };
 
-    ghost lower = { known_or 16 0 common };
+    ghost meet = { known_or 16 0 common };
 
-    ghost upper = { known_or 16 0 either };
+    ghost join = { known_or 16 0 either };
 
-    ghost spelling = { mark_word };
+    ghost word = { mark_word };
 
     ghost bounds = { record { numbered = lit≤ tt; byte = lit≤ tt; several = lit≤ tt; few = lit≤ tt; of_kind = lit< tt } };
 

@@ -22,13 +22,13 @@ impl Kind for Verdicts {
 
     ghost SILENT = { 1 };
 
-    ghost under = { known_below 3 nat_le };
+    ghost below = { known_below 3 nat_le };
 
-    ghost lower = { known_or 3 1 min };
+    ghost meet = { known_or 3 1 min };
 
-    ghost upper = { known_or 3 1 max };
+    ghost join = { known_or 3 1 max };
 
-    ghost spelling = { verdict_word };
+    ghost word = { verdict_word };
 
     ghost bounds = { record { numbered = lit≤ tt; byte = lit≤ tt; several = lit≤ tt; few = lit≤ tt; of_kind = lit< tt } };
 

@@ -7,7 +7,7 @@ use decision::Kind;
 pub struct Join;
 
 impl<K: Kind> Combination<K> for Join {
-    ghost made = { K.Kind.upper };
+    ghost made = { K.Kind.join };
 
     ghost of_kind = { K.Kind.lattice.join_of_kind };
 

@@ -7,7 +7,7 @@ use decision::Kind;
 pub struct Meet;
 
 impl<K: Kind> Combination<K> for Meet {
-    ghost made = { K.Kind.lower };
+    ghost made = { K.Kind.meet };
 
     ghost of_kind = { K.Kind.lattice.meet_of_kind };
 

@@ -13,7 +13,7 @@ use text::{print_line, read};
 
 // The rows of the table that the text's rules have, or the text's first fault, or refusal 5.
 pub fn rows_report<K: Kind>(heap: Global, text: &[u8]) -> Result<String, Unanswered>
-    ensures { Answers (report_of_rows K.Kind.COUNT K.Kind.SILENT K.Kind.spelling text.now) result }
+    ensures { Answers (report_of_rows K.Kind.COUNT K.Kind.SILENT K.Kind.word text.now) result }
 {
     let mut book = Book::<K>::open(heap)?;
     read(&mut book, text)?;
@@ -23,7 +23,7 @@ pub fn rows_report<K: Kind>(heap: Global, text: &[u8]) -> Result<String, Unanswe
 
 // The count of rows, and a line for each row.
 fn rows_lines<K: Kind>(heap: Global, rows: &[Row]) -> Result<String, AllocError>
-    ensures { IfOk result (λ text. string_bytes text ≡ rows_text K.Kind.spelling (view rows.now)) }
+    ensures { IfOk result (λ text. string_bytes text ≡ rows_text K.Kind.word (view rows.now)) }
 {
     let count = rows.len();
     let mut text = format!(in heap; "rows {count}\n")?;

@@ -5,4 +5,4 @@ use Rattle.decision.specs.Kinds.{read_word}
 
 -- the decision other than the silent one that has this word, in a kind
 abbrev pub reads : {S : Type 0} → Ghosts S → List ℕ → Option ℕ
-reads k = read_word k.COUNT k.SILENT k.spelling
+reads k = read_word k.COUNT k.SILENT k.word

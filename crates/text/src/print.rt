@@ -77,7 +77,7 @@ fn push_ranges(out: &mut String, region: Region) -> Result<(), AllocError>
 }
 
 fn push_line<K: Kind>(out: &mut String, region: Region, decision: u8) -> Result<(), AllocError>
-    ensures { Appended result (string_bytes out.old) (line_text K.Kind.spelling decision (ranges region)) (string_bytes out.new) }
+    ensures { Appended result (string_bytes out.old) (line_text K.Kind.word decision (ranges region)) (string_bytes out.new) }
 {
     out.push_str(K::word(decision))?;
     push_ranges(out, region)
@@ -85,7 +85,7 @@ fn push_line<K: Kind>(out: &mut String, region: Region, decision: u8) -> Result<
 
 // Appends the line of a rule, without a line feed. If memory runs out, the text stays as it was.
 pub fn print_line<K: Kind>(out: &mut String, region: Region, decision: u8) -> Result<(), AllocError>
-    ensures { string_bytes out.new ≡ string_bytes out.old ++ (if is_ok result then line_text K.Kind.spelling decision (ranges region) else []) }
+    ensures { string_bytes out.new ≡ string_bytes out.old ++ (if is_ok result then line_text K.Kind.word decision (ranges region) else []) }
 {
     let length = out.len();
     let printed = push_line::<K>(out, region, decision);

@@ -13,4 +13,4 @@ returns-clause-reads_back g c =
     let fit : AllByRecursion (λ rule. Fit tops (ranges rule.region)) (rules_of book) =
     subst (AllByRecursion (λ rule. Fit tops (ranges rule.region))) (take_all c.loop-rule.rule-index c.rules-rule-items.result.now c.loop-rule-test.false ∙ c.rules-rule-items.ensures) c.loop-rule.invariant.1 in
     let few : length (rules_of book) ≤ 64 = omega (arith, book.few, book.rules.ok) in
-    reads_back g.K.Kind.COUNT g.K.Kind.SILENT g.K.Kind.spelling g.met.K.Kind.words (rules_of book) few (all_proper g.K.Kind.COUNT g.K.Kind.SILENT (rules_of book) fit book.forward book.of_kind)
+    reads_back g.K.Kind.COUNT g.K.Kind.SILENT g.K.Kind.word g.met.K.Kind.words (rules_of book) few (all_proper g.K.Kind.COUNT g.K.Kind.SILENT (rules_of book) fit book.forward book.of_kind)

@@ -12,4 +12,4 @@ returns-clause-decision g c =
     let line = c.first_line.result in
     let same : c.in_ok-text.text.bytes ≡ c.args.text = search rules in
     subst (λ (t : Bor (List ℕ)). Decides g.K.Kind.COUNT g.K.Kind.SILENT read (values c.args.packet) (read_of read t.now).rules (Ok line)) same
-    (line_decides g.K.Kind.COUNT g.K.Kind.SILENT g.K.Kind.spelling (values c.args.packet) c.in_ok-text.text.bytes c.in_ok-check.ensures line c.first_line.ensures)
+    (line_decides g.K.Kind.COUNT g.K.Kind.SILENT g.K.Kind.word (values c.args.packet) c.in_ok-text.text.bytes c.in_ok-check.ensures line c.first_line.ensures)
