@@ -16,7 +16,8 @@ pub fn width(field: Field) -> usize
     WIDTHS[field.index()]
 }
 
-// Where in a row the field's low end begins; its high end follows.
+// Where in a row the field's low end begins; its high end follows. As numbers, since a sum of the widths before it would be longer to
+// bound than to write.
 pub fn start(field: Field) -> usize
     ensures { result ≡ field_start widths (place field) }
 {

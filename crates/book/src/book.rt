@@ -9,6 +9,9 @@ use std::marker::PhantomData;
 mod edits;
 pub mod source;
 
+// How many rules a book holds at most.
+pub const CAPACITY: usize = 64;
+
 // At most 64 rules in order, over decisions of the kind K. Memory for all of them is had when the book is opened.
 #[derive(Drop)]
 pub struct Book<K: Kind> {

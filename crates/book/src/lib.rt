@@ -9,6 +9,6 @@ pub mod book;
 pub mod refusal;
 pub mod rule;
 
-pub use book::Book;
+pub use book::{Book, CAPACITY};
 pub use refusal::Refusal;
 pub use rule::Rule;

@@ -24,7 +24,7 @@ pub enum Damage {
 }
 
 impl Damage {
-    // The number by which the damage is reported.
+    // The number by which the damage is reported. Variants with a place can have no discriminants.
     pub fn number(self) -> u8
         ensures { result ≡ damage_number self }
     {

@@ -17,7 +17,7 @@ pub enum OpenRefusal {
 }
 
 impl OpenRefusal {
-    // The refusal's number; want of memory has none.
+    // The refusal's number; want of memory has none, so that no discriminants can say it.
     pub fn number(self) -> Option<u8>
         ensures { result ≡ refusal_number self }
     {

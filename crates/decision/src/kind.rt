@@ -3,7 +3,8 @@ ghost use Rattle.std.specs.Prelude.{◌≡◌, ℕ, Bool, List};
 ghost use Rattle.decision.specs.Kinds.{Bounds, Lattice, Foreign, Words, known, both, read_word};
 
 // A kind's decisions are the numbers below its count. Each constant, and each function that a kind gives itself, has a ghost member of
-// its name beside it, by which contracts name its value.
+// its name beside it, by which contracts name its value. Decisions are plain numbers and not a type of the kind's own, because books and
+// packed bytes are given numbers of any kind, and refuse those that are no decision.
 pub trait Kind {
     // The kind's number.
     const NUMBER: u8;

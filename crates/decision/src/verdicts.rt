@@ -30,6 +30,7 @@ impl Kind for Verdicts {
 
     ghost word = { verdict_word };
 
+    // Each kind shows the laws for its own decisions; what it shares with the other kinds are the lemmas.
     ghost bounds = { record { numbered = lit≤ tt; byte = lit≤ tt; several = lit≤ tt; few = lit≤ tt; of_kind = lit< tt } };
 
     ghost lattice = { lattice_tested _ _ _ _ refl refl refl refl refl refl refl refl refl refl refl };

@@ -37,7 +37,7 @@ pub struct Finding {
 pub struct TooShort;
 
 impl TooShort {
-    // The number by which the refusal is reported.
+    // The number by which the refusal is reported. There is only this one.
     pub fn number(self) -> u8
         ensures { result ≡ 5 }
     {

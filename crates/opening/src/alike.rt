@@ -13,7 +13,7 @@ use crate::search::Nested;
 use damage::Damage;
 use packet::{Field, Packet};
 
-// The first row that starts a range alike its left neighbour.
+// The first row that starts a range alike its left neighbour. Rows are gone through by number, since no slice has them all.
 pub(crate) fn check_neighbours(nested: &Nested<'_>) -> Result<(), Damage>
     ensures { result ≡ unless (neighbour_damage (rows_in nested.now.rows.bytes.now)) tt }
 {

@@ -46,6 +46,7 @@ pub(crate) fn whole_table<K: Kind>(bytes: &[u8]) -> Result<Nested<'_>, Damage>
         return Err(Damage::Length);
     }
     let blocks = bytes.len() / BLOCK_BYTES;
+    // By number: a damage names its block.
     for number in 0..blocks {
         check_block::<K>(bytes, number)?;
     }

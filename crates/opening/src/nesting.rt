@@ -23,6 +23,7 @@ pub(crate) fn check_nesting(rows: Rows<'_>) -> Result<Nested<'_>, Damage>
     if is_any_reversed(&last) || !start_at_zero(&last, 0) {
         return Err(Damage::NotNested(0));
     }
+    // By number: a damage names its row, and no slice has all rows.
     for row in 1..rows.count {
         let ranges = rows.ranges(row);
         if is_any_reversed(&ranges) || !follow(&last, &ranges) {

@@ -31,7 +31,8 @@ impl Packet {
         self.to_array()[field.index()]
     }
 
-    // The packet with another value of one field; a value above the field's largest counts as the largest.
+    // The packet with another value of one field; a value above the field's largest counts as the largest. Written field by field, since
+    // each narrows to its own width.
     pub fn with(self, field: Field, value: u32) -> Packet
         ensures { values result ≡ slice_set (values self) (place field) (min value (slice_index tops (place field))) }
     {
@@ -74,7 +75,8 @@ impl Packet {
         ]
     }
 
-    // Does this packet come before the other? The first field in which they differ decides.
+    // Does this packet come before the other? The first field in which they differ decides. The derived order, with a contract that says
+    // so of the packets' values.
     pub fn is_earlier(self, other: Packet) -> bool
         ensures { result ≡ earlier (values self) (values other) }
     {

@@ -73,7 +73,8 @@ impl Region {
         self.to_array()[field.index()]
     }
 
-    // The region with another range on one field; an end above the field's largest value counts as the largest.
+    // The region with another range on one field; an end above the field's largest value counts as the largest. Written field by field,
+    // since each narrows to its own width.
     pub fn with(self, field: Field, range: Range<u32>) -> Region
         ensures { ranges result ≡ slice_set (ranges self) (place field) (clamped (slice_index tops (place field)) range) }
     {

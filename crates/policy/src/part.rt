@@ -25,6 +25,7 @@ pub struct ReversedRegion<S> {
 }
 
 impl<S> ReversedRegion<S> {
+    // The number by which the refusal is reported. There is only this one.
     pub fn number(&self) -> u8
         ensures { result ≡ 3 }
     {

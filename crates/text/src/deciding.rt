@@ -9,20 +9,18 @@ ghost use Rattle.text.specs.DecidingLines.{counted, said_holds, first_line, plac
 
 use crate::faults::ReadFault;
 use crate::lines::{Line, Text};
+use book::CAPACITY;
 use decision::Kind;
 use packet::Packet;
 
-// How many rules a text has at most.
-const MOST: usize = 64;
-
-// The steps of `read` with a count in place of a book: the count needs no memory, and each step is one line here and there.
-// How many rules there are with that of the line, behind `count` of the lines before it.
+// How many rules there are with that of the line, behind `count` of the lines before it. This and `check` are the steps of `read` with a
+// count in place of a book, which needs no memory.
 fn count_line<K: Kind>(count: usize, line: Line) -> Result<usize, ReadFault>
     ensures { result ≡ counted line.entry.number count (line_of (reads K.Kind) line.entry.bytes.now) }
 {
     match line.read::<K>()? {
         None => Ok(count),
-        Some(_) if count < MOST => Ok(count + 1),
+        Some(_) if count < CAPACITY => Ok(count + 1),
         Some(_) => Err(ReadFault::Full { line: line.number }),
     }
 }

@@ -3,15 +3,12 @@ ghost use Rattle.std.specs.Prelude.{◌≡◌, [], IfOk};
 ghost use Rattle.book.specs.Books.{rules_of};
 ghost use Rattle.book.specs.PlainList.{speaks, add, drop_rule, shift, recast};
 
-use crate::book::Book;
+use crate::book::{Book, CAPACITY};
 use crate::refusal::Refusal;
 use crate::rule::Rule;
 use decision::Kind;
 use std::alloc::{AllocError, Global};
 use std::marker::PhantomData;
-
-// How many rules a book holds at most.
-const CAPACITY: usize = 64;
 
 // Is this a decision of the kind other than the silent one?
 fn speaks<K: Kind>(decision: u8) -> bool

@@ -43,7 +43,8 @@ fn first_decision(rules: &[Rule], packet: Packet) -> Option<u8>
         .map(|rule| rule.decision)
 }
 
-// The nearest end, on the field, of the rules looked at, from the packet's value up.
+// The nearest end, on the field, of the rules looked at, from the packet's value up. A loop, since it keeps the nearest so far and stops
+// at the first rule that settles the rest.
 fn nearest_end(rules: &[Rule], field: Field, packet: Packet) -> u32
     ensures { Stops rules.now (place field) (values packet) result }
 {
