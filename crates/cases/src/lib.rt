@@ -10,4 +10,4 @@ mod tests;
 pub mod words;
 
 pub use answers::ended;
-pub use words::{bytes, packet};
+pub use words::{bytes, number, packet};
