@@ -1,5 +1,5 @@
-// What the programs that answer cases share: the words by which a case gives bytes and a packet, and the end of an answer that has
-// several lines.
+// What the programs that answer cases share: the words by which a case gives bytes, a number and a packet, and the end of an answer
+// that has several lines.
 //
 // Rests on packet and report.
 #![tactic(auto)]

@@ -90,14 +90,14 @@ fn won<K: Kind>(
 
 // A wanting word counts as an empty one, and further words go unread.
 fn of_kind<K: Kind>(heap: Global, call: &str, words: &[&str]) -> Result<String, Unanswered> {
-    let word = |index: usize| words.get(index).copied().unwrap_or("");
-    let text = bytes(heap, word(0))?;
+    let text = bytes(heap, words.first().copied().unwrap_or(""))?;
+    let second = words.get(1).copied().unwrap_or("");
     match call {
         "read" => Ok(reading::<K>(heap, &text)?),
         "rows" => ended(heap, rows_report::<K>(heap, &text)),
-        "findings" => ended(heap, found::<K>(heap, &text, number(word(1)) as usize)),
+        "findings" => ended(heap, found::<K>(heap, &text, number(second) as usize)),
         "winner" => {
-            let second = bytes(heap, word(1))?;
+            let second = bytes(heap, second)?;
             let packet = packet(words.get(2..).unwrap_or(&[]));
             Ok(won::<K>(heap, &text, &second, packet)?)
         }

@@ -16,11 +16,11 @@ use std::io::{BufRead, BufReader};
 
 // A wanting word counts as an empty one, and further words go unread.
 fn of_kind<K: Kind>(heap: Global, call: &str, words: &[&str]) -> Result<String, Unanswered> {
-    let word = |index: usize| words.get(index).copied().unwrap_or("");
-    let bytes = bytes(heap, word(0))?;
+    let bytes = bytes(heap, words.first().copied().unwrap_or(""))?;
+    let second = words.get(1).copied().unwrap_or("");
     match call {
         "rows" => ended(heap, rows_report::<K>(heap, &bytes)),
-        "pack" => ended(heap, packing::<K>(heap, &bytes, number(word(1)) as usize)),
+        "pack" => ended(heap, packing::<K>(heap, &bytes, number(second) as usize)),
         "open" => opened::<K>(heap, &bytes),
         "opened" => decided::<K>(heap, &bytes, packet(words.get(1..).unwrap_or(&[]))),
         "repack" => ended(heap, repacked::<K>(heap, &bytes)),

@@ -57,7 +57,11 @@ fn overlapping_boxes_join_to_eleven_rows(rt: HostRuntime) -> Result<(), Fail> {
     };
     let mut bytes = vec![in rt.alloc(); 0u8; 512]?;
     assert_eq!(rt;
-        pack::<Verdicts, Combined<Book<Verdicts>, Book<Verdicts>, Join>>(rt.alloc(), &both, &mut bytes),
+        pack::<Verdicts, Combined<Book<Verdicts>, Book<Verdicts>, Join>>(
+            rt.alloc(),
+            &both,
+            &mut bytes
+        ),
         Ok(11)
     );
     match Table::<Verdicts>::open(rt.alloc(), &bytes) {
