@@ -1,5 +1,5 @@
-// What the programs that answer cases share: the words by which a case gives bytes and a packet, and the end of an answer that has
-// several lines.
+// What the programs that answer cases share: the words by which a case gives bytes, a number and a packet, and the end of an answer
+// that has several lines.
 //
 // Rests on packet and report.
 #![tactic(auto)]
@@ -10,4 +10,4 @@ mod tests;
 pub mod words;
 
 pub use answers::ended;
-pub use words::{bytes, packet};
+pub use words::{bytes, number, packet};

@@ -1,5 +1,5 @@
 // Cases whose answers are known.
-use crate::{bytes, ended, packet};
+use crate::{bytes, ended, number, packet};
 use packet::Packet;
 use report::{TOO_LARGE, Unanswered};
 use std::test::Fail;
@@ -8,6 +8,8 @@ use std::test::Fail;
 fn digits_write_bytes(rt: HostRuntime) -> Result<(), Fail> {
     let some = bytes(rt.alloc(), "00ff2a")?;
     assert_eq!(rt; some.as_slice(), [0, 255, 42].as_slice());
+    let odd = bytes(rt.alloc(), "1FgA7")?;
+    assert_eq!(rt; odd.as_slice(), [16, 0].as_slice());
     let none = bytes(rt.alloc(), "-")?;
     assert!(rt; none.is_empty());
     Ok(())
@@ -16,9 +18,18 @@ fn digits_write_bytes(rt: HostRuntime) -> Result<(), Fail> {
 #[test]
 fn five_numbers_are_a_packet(rt: HostRuntime) -> Result<(), Fail> {
     let largest = packet(&["4294967295", "65535", "4294967295", "65535", "255"]);
-    assert_eq!(rt; largest, Some(Packet::LARGEST));
-    assert_eq!(rt; packet(&["0", "65536", "0", "0", "0"]), None);
-    assert_eq!(rt; packet(&["0", "0", "0", "0"]), None);
+    assert_eq!(rt; largest, Packet::LARGEST);
+    let above = packet(&["4294967295", "65536", "4294967295", "70000", "256", "1"]);
+    assert_eq!(rt; above, Packet::LARGEST);
+    assert_eq!(rt; packet(&["x", "", "4294967296"]), Packet::default());
+    Ok(())
+}
+
+#[test]
+fn a_word_is_a_number(rt: HostRuntime) -> Result<(), Fail> {
+    assert_eq!(rt; number("64"), 64);
+    assert_eq!(rt; number("4294967296"), 0);
+    assert_eq!(rt; number("6x"), 0);
     Ok(())
 }
 

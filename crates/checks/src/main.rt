@@ -2,9 +2,8 @@
 // nothing with the tool but its rules.
 #![tactic(auto)]
 
-use anyhow::Context;
 use book::Book;
-use cases::{bytes, ended, packet};
+use cases::{bytes, ended, number, packet};
 use decision::{Kind, Marks, Verdicts};
 use findings::{Finding, Hiding, findings};
 use packet::Packet;
@@ -89,24 +88,25 @@ fn won<K: Kind>(
     }
 }
 
-fn of_kind<K: Kind>(heap: Global, call: &str, words: &[&str]) -> anyhow::Result<String> {
-    Ok(match (call, words) {
-        ("read", [text]) => reading::<K>(heap, &bytes(heap, text)?)?,
-        ("rows", [text]) => ended(heap, rows_report::<K>(heap, &bytes(heap, text)?))?,
-        ("findings", [text, room]) => {
-            let text = bytes(heap, text)?;
-            ended(heap, found::<K>(heap, &text, room.parse()?))?
+// A wanting word counts as an empty one, and further words go unread.
+fn of_kind<K: Kind>(heap: Global, call: &str, words: &[&str]) -> Result<String, Unanswered> {
+    let text = bytes(heap, words.first().copied().unwrap_or(""))?;
+    let second = words.get(1).copied().unwrap_or("");
+    match call {
+        "read" => Ok(reading::<K>(heap, &text)?),
+        "rows" => ended(heap, rows_report::<K>(heap, &text)),
+        "findings" => ended(heap, found::<K>(heap, &text, number(second) as usize)),
+        "winner" => {
+            let second = bytes(heap, second)?;
+            let packet = packet(words.get(2..).unwrap_or(&[]));
+            Ok(won::<K>(heap, &text, &second, packet)?)
         }
-        ("winner", [first, second, fields @ ..]) => {
-            let packet = packet(fields).context("five numbers are wanting")?;
-            won::<K>(heap, &bytes(heap, first)?, &bytes(heap, second)?, packet)?
-        }
-        _ => String::from_str(heap, "no such case\n")?,
-    })
+        _ => Ok(String::from_str(heap, "no such case\n")?),
+    }
 }
 
 // A call and a kind are named by their words in one pattern each, so that a type for them would be used once.
-fn answer(heap: Global, case: &str) -> anyhow::Result<String> {
+fn answer(heap: Global, case: &str) -> Result<String, Unanswered> {
     let words: Vec<&str> = case.split(' ').collect(heap)?;
     match words.as_slice() {
         [call, "1", words @ ..] => of_kind::<Verdicts>(heap, call, words),

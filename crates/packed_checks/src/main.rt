@@ -7,41 +7,34 @@ mod packed;
 #[cfg(test)]
 mod tests;
 
-use crate::packed::{decided, on_the_rig, opened, packing, repacked};
-use anyhow::Context;
-use cases::{bytes, ended, packet};
+use crate::packed::{decided, no_case, on_the_rig, opened, packing, repacked};
+use cases::{bytes, ended, number, packet};
 use decision::{Kind, Marks, Verdicts};
-use report::rows_report;
+use report::{Unanswered, rows_report};
 use std::alloc::Global;
 use std::io::{BufRead, BufReader};
 
-// What a case without a packet is told.
-const FIVE: &str = "five numbers are wanting";
-
-fn of_kind<K: Kind>(heap: Global, call: &str, words: &[&str]) -> anyhow::Result<String> {
-    Ok(match (call, words) {
-        ("rows", [text]) => ended(heap, rows_report::<K>(heap, &bytes(heap, text)?))?,
-        ("pack", [text, room]) => {
-            let text = bytes(heap, text)?;
-            ended(heap, packing::<K>(heap, &text, room.parse()?))?
-        }
-        ("open", [packed]) => opened::<K>(heap, &bytes(heap, packed)?)?,
-        ("opened", [packed, fields @ ..]) => {
-            let packet = packet(fields).context(FIVE)?;
-            decided::<K>(heap, &bytes(heap, packed)?, packet)?
-        }
-        ("repack", [packed]) => ended(heap, repacked::<K>(heap, &bytes(heap, packed)?))?,
-        _ => String::from_str(heap, "no such case\n")?,
-    })
+// A wanting word counts as an empty one, and further words go unread.
+fn of_kind<K: Kind>(heap: Global, call: &str, words: &[&str]) -> Result<String, Unanswered> {
+    let bytes = bytes(heap, words.first().copied().unwrap_or(""))?;
+    let second = words.get(1).copied().unwrap_or("");
+    match call {
+        "rows" => ended(heap, rows_report::<K>(heap, &bytes)),
+        "pack" => ended(heap, packing::<K>(heap, &bytes, number(second) as usize)),
+        "open" => opened::<K>(heap, &bytes),
+        "opened" => decided::<K>(heap, &bytes, packet(words.get(1..).unwrap_or(&[]))),
+        "repack" => ended(heap, repacked::<K>(heap, &bytes)),
+        _ => no_case::<K>(heap, &bytes),
+    }
 }
 
 // A call and a kind are named by their words in one pattern each, so that a type for them would be used once.
-fn answer(heap: Global, case: &str) -> anyhow::Result<String> {
+fn answer(heap: Global, case: &str) -> Result<String, Unanswered> {
     let words: Vec<&str> = case.split(' ').collect(heap)?;
     match words.as_slice() {
+        ["rig"] => Ok(on_the_rig(heap, &[], packet(&[]))?),
         ["rig", packed, fields @ ..] => {
-            let packet = packet(fields).context(FIVE)?;
-            Ok(on_the_rig(heap, &bytes(heap, packed)?, packet)?)
+            Ok(on_the_rig(heap, &bytes(heap, packed)?, packet(fields))?)
         }
         [call, "1", words @ ..] => of_kind::<Verdicts>(heap, call, words),
         [call, "2", words @ ..] => of_kind::<Marks>(heap, call, words),

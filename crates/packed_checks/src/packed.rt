@@ -85,6 +85,13 @@ pub(crate) fn repacked<K: Kind>(heap: Global, bytes: &[u8]) -> Result<String, Un
     })
 }
 
+// What a call with no meaning answers: that its bytes are damaged comes first.
+pub(crate) fn no_case<K: Kind>(heap: Global, bytes: &[u8]) -> Result<String, Unanswered> {
+    of_table(heap, bytes, |_table: &Table<K>| {
+        Ok(String::from_str(heap, "no such case\n")?)
+    })
+}
+
 // What the call for C programs answers.
 pub(crate) fn on_the_rig(heap: Global, bytes: &[u8], packet: Packet) -> Result<String, AllocError> {
     let answer = kusucopper_decide(

@@ -78,10 +78,10 @@ fn measure_pack(rt: &HostRuntime, turns: u32) -> Result<()> {
     let each = measure(rt, turns, || {
         answer = Some(pack::<Verdicts, Book<Verdicts>>(rt.alloc(), &book, &mut bytes));
     })?;
-    match answer.context("no turn was taken")? {
-        Ok(rows) => println!(rt; "proved: {rows} rows, pack {each} ns")?,
-        Err(PackRefusal::TooLarge) => println!(rt; "proved: refused 5, {each} ns")?,
-        Err(PackRefusal::Memory) => bail!("there is no memory"),
+    match answer {
+        Some(Ok(rows)) => println!(rt; "proved: {rows} rows, pack {each} ns")?,
+        Some(Err(PackRefusal::TooLarge)) => println!(rt; "proved: refused 5, {each} ns")?,
+        Some(Err(PackRefusal::Memory)) | None => bail!("there is no memory"),
     }
     Ok(())
 }
