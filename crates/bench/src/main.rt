@@ -2,24 +2,25 @@
 #![tactic(auto)]
 
 use decision::Verdicts;
-use report::{Unanswered, rows_report};
+use report::printed_rows;
 use std::io::Read;
 use std::process::ExitCode;
+use text::LIMIT;
 
-// A text above 16,384 bytes is refused, so one byte more is all that need be read.
-const ENOUGH: u64 = 16_385;
+// A longer text is refused, so one byte more than it may have is all that need be read.
+const ENOUGH: u64 = LIMIT as u64 + 1;
 
 fn main(rt: HostRuntime) -> anyhow::Result<ExitCode> {
     let mut text = Vec::new(rt.alloc());
     let _ = rt.stdin().take(ENOUGH).read_to_end(&mut text)?;
-    match rows_report::<Verdicts>(rt.alloc(), &text) {
-        Err(Unanswered::Refused(report)) => {
-            println!(rt; "{report}")?;
-            Ok(ExitCode::FAILURE)
-        }
-        answer => {
-            rt.print(answer?)?;
+    match printed_rows::<Verdicts>(rt.alloc(), &text)? {
+        Ok(lines) => {
+            rt.print(lines)?;
             Ok(ExitCode::SUCCESS)
+        }
+        Err(line) => {
+            rt.print(line)?;
+            Ok(ExitCode::FAILURE)
         }
     }
 }

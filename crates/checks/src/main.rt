@@ -115,6 +115,7 @@ fn answer(heap: Global, case: &str) -> Result<String, Unanswered> {
     }
 }
 
+// A loop of its own in each program of cases: one for both would take what answers a case, and promise nothing of what is printed.
 fn main(rt: HostRuntime) -> anyhow::Result<()> {
     for case in BufReader::new(rt.alloc(), rt.stdin())?.lines(rt.alloc()) {
         rt.print(answer(rt.alloc(), case?.as_str())?)?;

@@ -40,4 +40,4 @@ refusal_place Memory = None
 -- how it is printed: damage by its number and its place, want of memory by words
 abbrev pub refusal_text : OpenRefusal → List ℕ
 refusal_text (Damaged damage) = damage_text damage
-refusal_text Memory = codes "out of memory"
+refusal_text Memory = codes "memory allocation failed"

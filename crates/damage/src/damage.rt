@@ -38,7 +38,7 @@ impl Damage {
         }
     }
 
-    // Where the damage is: the block for 12 and 13, the row for 14, 15 and 16, counted from 0.
+    // Where the damage is: the block for 12 and 13, the row for 14, 15 and 16, counted from 0. A length has no place and tells 0.
     pub fn place(self) -> usize
         ensures { result ≡ damage_place self }
     {

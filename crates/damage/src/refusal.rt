@@ -38,6 +38,7 @@ impl OpenRefusal {
     }
 }
 
+// Written out, since a derived `From` does not say what it gives.
 impl From<Damage> for OpenRefusal {
     ghost from_gives = { λ damage r. r ≡ Damaged damage };
 
@@ -60,7 +61,7 @@ impl fmt::Display for OpenRefusal {
     fn fmt<W: fmt::Write>(&self, f: &mut fmt::Formatter<W>) -> fmt::Result {
         match self {
             OpenRefusal::Damaged(damage) => write!(f, "{damage}"),
-            OpenRefusal::Memory => write!(f, "out of memory"),
+            OpenRefusal::Memory => write!(f, "memory allocation failed"),
         }
     }
 }

@@ -56,7 +56,7 @@ pub trait Kind {
         }
     }
 
-    // The decision other than the silent one that is written so.
+    // The decision other than the silent one that is written so. A loop, since what `rev().find(..)` finds in a range is not proved.
     #[tactic(auto, using(crate::specs::Words::read_here, crate::specs::Words::read_other, crate::specs::Words::read_silent, crate::specs::Words::read_end))]
     fn read(text: &[u8]) -> Option<u8>
         ensures { result ≡ read_word COUNT SILENT word text.now }

@@ -9,7 +9,8 @@ use crate::overlap::{covers, shares};
 use book::{Book, Rule};
 use decision::Kind;
 
-// Writes the book's findings to the first entries and answers how many there are; the other entries stay.
+// Writes the book's findings to the first entries and answers how many there are; the other entries stay. The entries are lent, so that
+// no memory is needed.
 #[tactic(auto, using(crate::proofs::Listed::written_over))]
 pub fn findings<K: Kind>(book: &Book<K>, entries: &mut [Finding]) -> Result<usize, TooShort>
     ensures answer { result ≡ count_of (findings_of (rules_of book.now)) (length entries.old) }

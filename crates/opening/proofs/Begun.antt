@@ -1,4 +1,5 @@
 -- The stepwise test for nested rows, as a loop over the rows makes it. Assumes nothing.
+use mathlib.Core.Bool.{and-true}
 use Rattle.std.proofs.Common.{◌≡◌, ℕ, zero, suc, ◌+◌, ◌-◌, ◌<◌, ◌≤◌, Bool, true, false, not, ◌&&◌, ◌||◌, leb, List, [], ◌∷◌, length, take, Some, None, Option, eqb, sym, refl, ap, ◌∙◌, ap₂, inl, inr, add-one, arith}
 use Rattle.std.specs.List.{list_all, list_any, zip}
 use Rattle.std.proofs.lemmas.List.{take_all}
@@ -26,10 +27,6 @@ not_or : (a b : Bool) → (not a && not b) ≡ not (a || b)
 not_or true b = refl
 not_or false b = refl
 
-and_true : (a : Bool) → (a && true) ≡ a
-and_true true = refl
-and_true false = refl
-
 -- ranges whose ends are values of their fields fit if none is reversed
 fits_forward : (ts : List ℕ) (rs : List (Range ℕ)) → Fit ts rs → fits ts rs ≡ not (any_reversed rs)
 fits_forward [] [] f = refl
@@ -37,7 +34,7 @@ fits_forward [] (r ∷ rs) f = absurd f
 fits_forward (top ∷ rest) [] f = absurd f
 fits_forward (top ∷ rest) (r ∷ rs) f =
     ap (λ t. leb r.low r.high && t && fits rest rs) (le-leb r.high top f.1)
-    ∙ ap₂ (λ s t. s && t) (and_true (leb r.low r.high) ∙ forward r) (fits_forward rest rs f.2)
+    ∙ ap₂ (λ s t. s && t) (and-true (leb r.low r.high) ∙ forward r) (fits_forward rest rs f.2)
     ∙ not_or (reversed r) (any_reversed rs)
 
 module _ (rows : List Row) where

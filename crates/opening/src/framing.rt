@@ -51,7 +51,7 @@ fn is_count(count: usize, is_last: bool) -> bool
     ensures bound { result ≡ true → count ≤ 18 }
 {
     if is_last {
-        1 <= count && count <= BLOCK_ROWS
+        (1..=BLOCK_ROWS).contains(&count)
     } else {
         count == BLOCK_ROWS
     }

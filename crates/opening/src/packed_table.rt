@@ -9,8 +9,8 @@ use std::marker::PhantomData;
 mod opened;
 pub mod source;
 
-// Packed bytes whose rows are nested, over decisions of the kind K. The table owns its bytes, since a source has no lifetime;
-// `nested` lends its rows.
+// Packed bytes whose rows are nested, over decisions of the kind K. The table owns a copy of its bytes, and what holds of them
+// is said of its own; `nested` lends its rows. The count is kept, so that the last block need not be read for it again.
 #[derive(Drop)]
 pub struct Table<K> {
     bytes: Vec<u8>,

@@ -15,7 +15,7 @@ pub(crate) const DECISION: usize = 26;
 
 pub(crate) const KIND: usize = 27;
 
-// The number that up to four bytes stand for, the most significant first.
+// The number that up to four bytes stand for, the most significant first; `from_be_bytes` takes four.
 pub(crate) fn number_of(bytes: &[u8]) -> u32
     requires { length bytes.now ≤ 4 }
     ensures value { result ≡ number_of bytes.now }

@@ -12,7 +12,7 @@ use policy::Source;
 use std::alloc::Global;
 use table::{PackRefusal, rows_of};
 
-// Writes the source's table to the front of the bytes, and answers its number of rows. The bytes behind the last block stay, and
+// Writes the source's table to the front of the lent bytes, and answers its number of rows. The bytes behind the last block stay, and
 // after a refusal all do.
 pub fn pack<K: Kind, S: Source<K>>(
     heap: Global,

@@ -1,12 +1,9 @@
 -- Whether ranges hold a packet, seen from one field. Assumes nothing.
 use Rattle.std.proofs.Common.{◌≡◌, ℕ, zero, suc, ◌<◌, ◌≤◌, Bool, true, false, ◌&&◌, List, [], ◌∷◌, ◌++◌, length, take, drop, sym, refl, ap, ◌∙◌, arith}
+use Rattle.std.proofs.Math.Bool.{and_assoc}
 use Rattle.std.proofs.lemmas.Bool.Decides.{nat_tests}
 use Rattle.packet.specs.declared.range.Range.{Range}
 use Rattle.packet.specs.Regions.{inside, holds, range_at, run_end}
-
-and_assoc : (a b c : Bool) → (a && b && c) ≡ (a && (b && c))
-and_assoc true b c = refl
-and_assoc false b c = refl
 
 -- the ranges before field f hold the values before it, the range of f holds x, and the later ranges hold the rest
 pub holds_at : (rs : List (Range ℕ)) (p : List ℕ) (f x : ℕ) (rest : List ℕ) → f < length rs → f ≤ length p

@@ -20,6 +20,10 @@ place Destination = 2
 place DestinationPort = 3
 place Protocol = 4
 
+-- the fields of a packet, in their order
+abbrev pub fields : List Field
+fields = Source ∷ SourcePort ∷ Destination ∷ DestinationPort ∷ Protocol ∷ []
+
 -- p is a packet: one value for each field, and none above the field's largest. "Every packet" is every p with Within tops p
 abbrev pub Within : List ℕ → List ℕ → Type 0
 Within [] [] = Unit {0}

@@ -75,8 +75,8 @@ impl Packet {
         ]
     }
 
-    // Does this packet come before the other? The first field in which they differ decides. The derived order, with a contract that says
-    // so of the packets' values.
+    // Does this packet come before the other? The first field in which they differ decides: the derived order, said of
+    // the packets' values.
     pub fn is_earlier(self, other: Packet) -> bool
         ensures { result ≡ earlier (values self) (values other) }
     {

@@ -2,7 +2,7 @@
 ghost use Rattle.std.specs.Prelude.{◌≡◌};
 ghost use Rattle.packet.specs.Regions.{inside, reversed, run_end};
 
-// A range whose low end is above its high end is reversed: it holds nothing, and the calls that take a region refuse it.
+// A range whose low end is above its high end is reversed: it holds nothing, and a book and a part refuse a region that has one.
 #[derive(Clone, Copy, PartialEq, Eq, Debug)]
 pub struct Range<T> {
     pub low: T,

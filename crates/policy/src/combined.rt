@@ -7,7 +7,7 @@ use crate::source::Source;
 use decision::Kind;
 use packet::{Field, Packet};
 
-// A way to make one decision of two.
+// A way to make one decision of two. A type and not a closure, since it brings a law.
 pub trait Combination<K: Kind> {
     // the decision made of two
     ghost made: { ℕ → ℕ → ℕ };

@@ -34,6 +34,17 @@ Answers answer (Ok text) = answer ≡ Ok (string_bytes text)
 Answers answer (Err (Refused report)) = answer ≡ Err report
 Answers answer (Err Memory) = ⊤
 
+-- what is printed of an answer: its text, or the line of its refusal
+abbrev pub printed_as : Result (List ℕ) Report → Result (List ℕ) (List ℕ)
+printed_as (Ok text) = Ok text
+printed_as (Err report) = Err (refusal_text report)
+
+-- this is printed of the answer, unless memory ran out
+abbrev pub Prints : Result (List ℕ) Report → Result (Result (String Global) (String Global)) Unanswered → Type 0
+Prints answer (Ok (Ok text)) = printed_as answer ≡ Ok (string_bytes text)
+Prints answer (Ok (Err line)) = printed_as answer ≡ Err (string_bytes line)
+Prints answer (Err e) = e ≡ Memory
+
 -- a line for each row, in the form of a rule line
 abbrev pub lines_text : (ℕ → List ℕ) → List Row → List ℕ
 lines_text spelling [] = []

@@ -1,7 +1,7 @@
 // The rows of a rule text.
 ghost use Rattle.std.specs.Prelude.{◌≡◌, IfOk, string_bytes};
 ghost use Rattle.table.specs.Rows.{view};
-ghost use Rattle.report.specs.Outputs.{Answers, rows_text};
+ghost use Rattle.report.specs.Outputs.{Answers, Prints, rows_text};
 ghost use Rattle.report.specs.Reports.{report_of_rows};
 
 use crate::unanswered::Unanswered;
@@ -19,6 +19,20 @@ pub fn rows_report<K: Kind>(heap: Global, text: &[u8]) -> Result<String, Unanswe
     read(&mut book, text)?;
     let rows = rows_of::<K, Book<K>>(heap, &book)?;
     Ok(rows_lines::<K>(heap, &rows)?)
+}
+
+// What the program prints for a rule text: the rows, or the line of the refusal.
+pub fn printed_rows<K: Kind>(
+    heap: Global,
+    text: &[u8],
+) -> Result<Result<String, String>, Unanswered>
+    ensures { Prints (report_of_rows K.Kind.COUNT K.Kind.SILENT K.Kind.word text.now) result }
+{
+    match rows_report::<K>(heap, text) {
+        Ok(lines) => Ok(Ok(lines)),
+        Err(Unanswered::Refused(report)) => Ok(Err(format!(in heap; "{report}\n")?)),
+        Err(Unanswered::Memory) => Err(Unanswered::Memory),
+    }
 }
 
 // The count of rows, and a line for each row.

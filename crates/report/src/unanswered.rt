@@ -26,6 +26,7 @@ pub const TOO_LARGE: Report = Report {
     column: 0,
 };
 
+// Written out, since a derived `From` does not say what it gives.
 impl From<ReadFault> for Unanswered {
     ghost from_gives = { λ fault r. r ≡ Refused (report_of fault) };
 

@@ -11,7 +11,7 @@ use decision::Verdicts;
 use opening::decide_packed;
 use packet::Packet;
 
-// The decision of the packet, or 100 plus the number of the refusal to open the bytes.
+// The decision of the packet, or 100 plus the number of the refusal to open the bytes: one number, as C has it.
 pub fn kusucopper_decide(
     bytes: &[u8],
     source: u32,

@@ -11,7 +11,7 @@ use std::env;
 use std::io::Read;
 use std::time::Instant;
 use table::PackRefusal;
-use text::read;
+use text::{LIMIT, read};
 
 fn main(rt: HostRuntime) -> Result<()> {
     let mut words = env::args(&rt)?.skip(1);
@@ -34,7 +34,7 @@ fn number(word: Option<String>) -> Result<u32> {
 // The rule text on standard input. A text above 16,384 bytes is refused, so one byte more is all that need be read.
 fn input(rt: &HostRuntime) -> Result<Vec<u8>> {
     let mut text = Vec::new(rt.alloc());
-    let _ = rt.stdin().take(16_385).read_to_end(&mut text)?;
+    let _ = rt.stdin().take(LIMIT as u64 + 1).read_to_end(&mut text)?;
     Ok(text)
 }
 

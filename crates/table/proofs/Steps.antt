@@ -7,14 +7,14 @@ use Rattle.packet.specs.declared.packet.Packet.{Packet}
 use Rattle.packet.specs.declared.field.Field.{Field}
 use Rattle.packet.specs.declared.field.Field.TheVariants.{Source, SourcePort, Destination, DestinationPort, Protocol}
 use Rattle.packet.specs.Regions.{ranges}
-use Rattle.packet.specs.Packets.{values, tops, place, Within}
+use Rattle.packet.specs.Packets.{values, tops, place, Within, fields as all_fields}
 use Rattle.packet.proofs.Values.{place_few}
 use Rattle.policy.specs.Edges.{Edge, Alike}
 use Rattle.theory.specs.Tables.{Row, table, sub_table}
 use Rattle.theory.proofs.Runs.{Constant, sub_table_counts}
 use Rattle.table.specs.declared.row.Row as code
 use Rattle.table.specs.Rows.{plain, view}
-use Rattle.table.specs.Parts.{all_fields, before, AreLast, table_from, whole, uncut, cut_between}
+use Rattle.table.specs.Parts.{before, AreLast, table_from, whole, uncut, cut_between}
 use Rattle.table.proofs.Built.{Built, built_first, built_next, built_whole, new_counts}
 
 -- before the first field there is nothing to cut

@@ -2,15 +2,10 @@
 use Rattle.std.specs.Prelude.{◌≡◌, ℕ, ◌-◌, List, [], ◌∷◌, ◌++◌, length, map, take, drop, slice_index, slice_set}
 use Rattle.std.specs.List.{between}
 use Rattle.packet.specs.declared.field.Field.{Field}
-use Rattle.packet.specs.declared.field.Field.TheVariants.{Source, SourcePort, Destination, DestinationPort, Protocol}
 use Rattle.packet.specs.declared.range.Range.{Range}
-use Rattle.packet.specs.Packets.{tops}
+use Rattle.packet.specs.Packets.{tops, fields as all_fields}
 use Rattle.packet.specs.Regions.{clamped}
 use Rattle.theory.specs.Tables.{Row, table}
-
--- all fields, in their order
-abbrev pub all_fields : List Field
-all_fields = Source ∷ SourcePort ∷ Destination ∷ DestinationPort ∷ Protocol ∷ []
 
 -- how many fields come before the last ones
 abbrev pub before : List Field → ℕ

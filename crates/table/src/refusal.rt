@@ -25,6 +25,7 @@ impl PackRefusal {
     }
 }
 
+// Written out, since a derived `From` does not say what it gives.
 impl<T: Drop> From<AllocFailed<T>> for PackRefusal {
     ghost from_gives = { λ _ r. r ≡ Memory };
 

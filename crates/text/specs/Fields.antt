@@ -1,7 +1,7 @@
 -- The ranges of a line's words, field by field. Cited by src/regions.rt and src/print.rt. Assumes nothing.
 use Rattle.std.specs.Prelude.{ℕ, ◌+◌, List, [], ◌∷◌, length, Ok, Err, Result}
 use Rattle.packet.specs.declared.field.Field.{Field}
-use Rattle.packet.specs.declared.field.Field.TheVariants.{Source, SourcePort, Destination, DestinationPort, Protocol}
+pub use Rattle.packet.specs.Packets.{fields}
 use Rattle.packet.specs.declared.range.Range.{Range}
 use Rattle.packet.specs.declared.region.Region.{Region}
 use Rattle.packet.specs.Regions.{range_at}
@@ -9,10 +9,6 @@ use Rattle.text.specs.declared.faults.LineFault.{LineFault}
 use Rattle.text.specs.declared.faults.LineFault.TheVariants.{Word, Words}
 use Rattle.text.specs.Steps.{then, carried}
 use Rattle.text.specs.Ranges.{range_of}
-
--- the fields of a packet, in their order
-abbrev pub fields : List Field
-fields = Source ∷ SourcePort ∷ Destination ∷ DestinationPort ∷ Protocol ∷ []
 
 -- the ranges that the words from this column on write, one for each field, or the first fault; a line lacks no word, since its
 -- words are counted first

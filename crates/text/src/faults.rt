@@ -69,6 +69,7 @@ impl fmt::Display for Report {
     }
 }
 
+// Written out, since a derived `From` does not say what it gives.
 impl From<LetterFault> for LineFault {
     ghost from_gives = { λ fault r. r ≡ Letter fault };
 
@@ -86,6 +87,7 @@ impl From<WordFault> for LineFault {
 }
 
 impl ReadFault {
+    // The numbers by which the fault is told.
     pub fn report(self) -> Report
         ensures { result ≡ report_of self }
     {

@@ -26,5 +26,6 @@ mod words;
 
 pub use deciding::deciding_line;
 pub use faults::{LetterFault, LineFault, ReadFault, Report, WordFault};
+pub use lines::LIMIT;
 pub use print::print_line;
 pub use reading::read;

@@ -19,10 +19,7 @@ use decision::Kind;
 fn is_skipped(line: &[u8]) -> bool
     ensures { result ≡ skipped line.now }
 {
-    match line {
-        [] => true,
-        [first, ..] => *first == b'#',
-    }
+    matches!(line, [] | [b'#', ..])
 }
 
 impl<'a> Line<'a> {

@@ -8,7 +8,7 @@ use crate::faults::ReadFault;
 use crate::pieces::Pieces;
 
 // How many bytes a text has at most.
-const LIMIT: usize = 16_384;
+pub const LIMIT: usize = 16_384;
 
 #[derive(Clone, Copy)]
 pub(crate) struct Text<'a> {

@@ -21,6 +21,7 @@ fn digit(byte: u8) -> Option<u32>
     char::from(byte).to_digit(10)
 }
 
+// Not by `parse`, which takes a plus and zeros in front.
 // number = "0" | a digit from 1 to 9, then digits; at most `top`
 pub(crate) fn number(word: &[u8], top: u32) -> Option<u32>
     ensures { result ≡ number_of top word.now }
@@ -39,6 +40,7 @@ pub(crate) fn number(word: &[u8], top: u32) -> Option<u32>
     Some(value)
 }
 
+// Not by the library's `Ipv4Addr`, since the definition of an address is four of the numbers above.
 // address = four numbers up to 255 with full stops between them
 pub(crate) fn address(word: &[u8]) -> Option<u32>
     ensures { result ≡ address_of word.now }

@@ -9,7 +9,7 @@ use itoa::Buffer;
 use packet::{Field, Range, Region};
 use std::alloc::AllocError;
 
-// Each of these leaves the text as it was, or begun, when memory runs out. A `write!` would promise nothing of the text then.
+// Each function here leaves the text as it was, or begun, when memory runs out. A `write!` would promise nothing of the text then.
 fn push_letter(out: &mut String, letter: u8) -> Result<(), AllocError>
     requires { letter < 128 }
     ensures { Appended result (string_bytes out.old) (letter ∷ []) (string_bytes out.new) }
@@ -23,8 +23,8 @@ fn push_number(out: &mut String, number: u32) -> Result<(), AllocError>
     out.push_str(Buffer::new().format(number))
 }
 
-// By recursion, since each byte is one step of it: four bytes in a row would be seven writes, each with its error.
-// The lowest bytes of a number, `more` and one, with full stops between them.
+// The lowest bytes of a number, `more` and one, with full stops between them. By recursion, since four bytes in a row would be seven
+// writes, each with its error.
 fn push_bytes(out: &mut String, more: u8, number: u32) -> Result<(), AllocError>
     ensures { Appended result (string_bytes out.old) (bytes_text more number) (string_bytes out.new) }
 {
@@ -45,6 +45,7 @@ fn push_value(out: &mut String, field: Field, value: u32) -> Result<(), AllocErr
     }
 }
 
+// Is the range exactly that of all values? A whole range of a rule may reach further.
 fn is_whole(field: Field, range: Range<u32>) -> bool
     ensures { result ≡ whole field range }
 {

@@ -89,7 +89,7 @@ fn are_whole_from(ranges: &[Range<u32>], largest: &[u32], place: usize) -> bool
         .all(|(range, largest)| is_whole(*range, *largest))
 }
 
-// Does the range hold every value up to the largest?
+// Does the range hold every value up to the largest? It may reach further; what is printed as whole may not.
 fn is_whole(range: Range<u32>, largest: u32) -> bool
     ensures { result ≡ whole largest range }
 {
