@@ -105,7 +105,7 @@ fn of_kind<K: Kind>(heap: Global, call: &str, words: &[&str]) -> Result<String, 
     }
 }
 
-// A call and a kind are named by their words in one pattern each, so that a type for them would be used once.
+// A call and a kind are named by their words in patterns, since a type for them would be made from the word and matched once.
 fn answer(heap: Global, case: &str) -> Result<String, Unanswered> {
     let words: Vec<&str> = case.split(' ').collect(heap)?;
     match words.as_slice() {

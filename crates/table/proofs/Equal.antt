@@ -1,16 +1,12 @@
 -- What `==` tells of rows. Assumes nothing.
-use Rattle.std.proofs.Common.{◌≡◌, ℕ, Bool, ◌&&◌, List, Decides, ◌==◌, arith}
+use Rattle.std.proofs.Common.{◌≡◌, Bool, List, Decides, arith}
 use Rattle.std.specs.Cmp.Lexicographic.{pointwise}
 use Rattle.std.proofs.lemmas.Bool.Decides.{nat_tests}
 use Rattle.std.proofs.lemmas.Slice.Eq.{slice_eq-Decides}
-use Rattle.packet.specs.declared.range.Range.{Range}
 use Rattle.packet.specs.declared.region.Region.{Region}
 use Rattle.packet.specs.contracts.region.RegionPartialEq.TheImpl as region
 use Rattle.table.specs.declared.row.Row.{Row}
 use Rattle.table.specs.contracts.row.RowPartialEq.TheImpl as row
-
-range_tells : (x y : Range ℕ) → Decides (x.low == y.low && x.high == y.high) (x ≡ y)
-range_tells x y = (λ h. grind (arith, nat_tests), λ e. grind (arith, nat_tests))
 
 region_tells : (x y : Region) → Decides ((region.ghosts).eq x y) (x ≡ y)
 region_tells x y = (λ h. grind (arith, nat_tests), λ e. grind (arith, nat_tests))

@@ -1,13 +1,8 @@
 -- What a `?` returns when a table is refused. Assumes nothing.
-use Rattle.std.proofs.Common.{◌≡◌, ℕ, ◌≤◌, IsErrAnd, IfOk, IfErr, Ok, Err, Result, sym, subst, arith}
+use Rattle.std.proofs.Common.{◌≡◌, ℕ, ◌≤◌, IsErrAnd, IfErr, Ok, Err, Result, sym, subst, arith}
 use Rattle.table.specs.declared.refusal.PackRefusal.{PackRefusal}
 use Rattle.table.specs.declared.refusal.PackRefusal.TheVariants.{TooLarge, Memory}
 use Rattle.table.specs.Refusals.{Refuses}
-
--- nothing was made
-pub none_made : {T : Type 0} (r : Result T PackRefusal) (P : T → Type 0) (e : PackRefusal) → IsErrAnd r (λ y. y ≡ e) → IfOk r P
-none_made (Ok x) P e h = absurd h
-none_made (Err y) P e h = tt
 
 -- what a refusal says of fewer rows it says of more
 refuses_more : (e : PackRefusal) (a b : ℕ) → a ≤ b → Refuses e a → Refuses e b

@@ -2,7 +2,7 @@
 use Rattle.std.proofs.Common.{◌≡◌, ℕ, ◌+◌, ◌-◌, ◌<◌, ◌≤◌, Bool, List, [], ◌∷◌, ◌++◌, map, length, get_or, take, drop, set, Decides, sym, refl, ap, ◌∙◌, ap₂, arith}
 use borrow.Rule.Slice.PartMut.{put_mid}
 use Rattle.std.specs.List.{between}
-use Rattle.std.proofs.lemmas.List.{append-nil, append_assoc, map-append, map-set, get_or-map, length-map, take_all, take_rest, take-map, drop_all, drop-drop, drop-map}
+use Rattle.std.proofs.lemmas.List.{append_assoc, map-append, map-set, get_or-map, length-map, take_rest, take-map, drop-drop, drop-map}
 use Rattle.std.proofs.lemmas.Bool.Decides.{Decides-like}
 use Rattle.std.proofs.lemmas.List.Edits.{map_over_more}
 use Rattle.packet.specs.declared.range.Range.{Range}
@@ -28,14 +28,6 @@ cut_more f range old rows i region d h l e v =
 -- a part of the rows is seen as the part of what is seen
 pub view_between : (rows : List Row) (start end : ℕ) → view (between start end rows) ≡ between start end (view rows)
 view_between rows start end = sym (take-map plain (end - start) (drop start rows)) ∙ ap (take (end - start)) (sym (drop-map plain start rows))
-
--- all rows of a part have got a range
-pub cut_all : (f : ℕ) (range : Range ℕ) (part rows : List Row) (i : ℕ) → length part ≤ i
-    → view rows ≡ map (cut f range) (take i (view part)) ++ drop i (view part)
-    → view rows ≡ map (cut f range) (view part)
-cut_all f range part rows i h v =
-    let n : length (view part) ≤ i = omega (arith, length-map part plain) in
-    v ∙ ap₂ (λ (a b : List tables.Row). map (cut f range) a ++ b) (take_all i (view part) n) (drop_all i (view part) n) ∙ append-nil (map (cut f range) (view part))
 
 -- and are put back where they were lent
 pub cut_put : (f : ℕ) (range : Range ℕ) (rows lent part : List Row) (start end : ℕ) → start ≤ end → lent ≡ rows

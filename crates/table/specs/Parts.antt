@@ -1,5 +1,5 @@
 -- Parts of a table while it is built, field by field. Cited by the private functions of src/rows.rt. Assumes nothing.
-use Rattle.std.specs.Prelude.{◌≡◌, ℕ, ◌-◌, List, [], ◌∷◌, ◌++◌, length, map, take, drop, slice_index, slice_set}
+use Rattle.std.specs.Prelude.{◌≡◌, ℕ, ◌-◌, List, ◌++◌, length, map, take, drop, slice_index, slice_set}
 use Rattle.std.specs.List.{between}
 use Rattle.packet.specs.declared.field.Field.{Field}
 use Rattle.packet.specs.declared.range.Range.{Range}

@@ -3,7 +3,7 @@ ghost use Rattle.std.specs.Prelude.{◌≡◌};
 ghost use Rattle.text.specs.Tokens.{word_of, column_of, Stands};
 
 // A word of a line, borrowed from the text, with the column of its first byte counted from 1. The star is a case of its own, so that
-// what reads a range need not look at bytes again.
+// what reads a range need not look for it in the bytes.
 #[derive(Clone, Copy)]
 pub(crate) enum Token<'a> {
     // The word `*`.
