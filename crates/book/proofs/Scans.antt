@@ -3,10 +3,10 @@ use Rattle.std.specs.Prelude.{nat_lt}
 use Rattle.std.proofs.lemmas.Bool.{and_parts, lt-ltb, ltb-true}
 use Rattle.decision.specs.Kinds.{known}
 use Rattle.book.specs.Rules.{Speaks, AllSpeak}
-use Rattle.std.proofs.Common.{◌≡◌, ℕ, zero, suc, ◌+◌, ◌<◌, ◌≤◌, min, Bool, true, false, cond, ◌&&◌, List, [], ◌∷◌, Option, Some, length, get_or, take, drop, sym, refl, ap, ◌∙◌, ap₂, arith}
+use Rattle.std.proofs.Common.{◌≡◌, ℕ, zero, suc, ◌+◌, ◌-◌, ◌<◌, ◌≤◌, min, Bool, true, false, cond, ◌&&◌, List, [], ◌∷◌, Option, Some, length, get_or, take, drop, sym, refl, ap, ◌∙◌, ap₂, arith}
 use Rattle.std.specs.List.{list_all, find, zip}
 use Rattle.std.specs.Option.{unwrap_or, option_map}
-use Rattle.std.proofs.lemmas.List.{at_drop_more, at_drop_all}
+use Rattle.std.proofs.lemmas.List.{at_drop_more, at_drop_all, length-drop, take_all}
 use Rattle.packet.specs.declared.range.Range.{Range}
 use Rattle.packet.specs.Packets.{tops}
 use Rattle.packet.specs.Regions.{ranges, range_at, inside, holds, run_end}
@@ -16,7 +16,7 @@ use Rattle.book.specs.Reach.{run, nearest, whole, all_whole, in_play, settles, l
 
 -- pair by pair, as far as place n
 abbrev pub each_holds : ℕ → List (Range ℕ) → List ℕ → Bool
-each_holds n rs p = list_all (λ x. inside x.0 x.1) (take n (zip rs p))
+each_holds n rs p = list_all (λ x. inside x.0 x.1) (zip (take n rs) (take n p))
 
 pub pairs_hold : (n : ℕ) (rs : List (Range ℕ)) (p : List ℕ) → length rs ≡ length p → each_holds n rs p ≡ holds (take n rs) (take n p)
 pairs_hold zero rs p e = refl
@@ -27,17 +27,21 @@ pairs_hold (suc n) (r ∷ rs) (v ∷ p) e = ap (λ b. inside r v && b) (pairs_ho
 
 -- pair by pair, from place n on
 abbrev pub each_whole : ℕ → List (Range ℕ) → List ℕ → Bool
-each_whole n rs most = list_all (λ x. whole x.1 x.0) (drop n (zip rs most))
+each_whole n rs most = list_all (λ x. whole x.1 x.0) (zip (take (5 - n) (drop n rs)) (take (5 - n) (drop n most)))
 
-pub pairs_whole : (n : ℕ) (rs : List (Range ℕ)) (most : List ℕ) → length rs ≡ length most → each_whole n rs most ≡ all_whole (drop n most) (drop n rs)
-pairs_whole zero [] [] e = refl
-pairs_whole zero [] (v ∷ p) e = absurd (omega arith)
-pairs_whole zero (r ∷ rs) [] e = absurd (omega arith)
-pairs_whole zero (r ∷ rs) (v ∷ p) e = ap (λ b. whole v r && b) (pairs_whole zero rs p (omega arith))
-pairs_whole (suc n) [] [] e = refl
-pairs_whole (suc n) [] (v ∷ p) e = absurd (omega arith)
-pairs_whole (suc n) (r ∷ rs) [] e = absurd (omega arith)
-pairs_whole (suc n) (r ∷ rs) (v ∷ p) e = pairs_whole n rs p (omega arith)
+pairs_whole : (rs : List (Range ℕ)) (most : List ℕ) → length rs ≡ length most → list_all (λ x. whole x.1 x.0) (zip rs most) ≡ all_whole most rs
+pairs_whole [] [] e = refl
+pairs_whole [] (v ∷ p) e = absurd (omega arith)
+pairs_whole (r ∷ rs) [] e = absurd (omega arith)
+pairs_whole (r ∷ rs) (v ∷ p) e = ap (λ b. whole v r && b) (pairs_whole rs p (omega arith))
+
+rest : {A : Type 0} (n : ℕ) (xs : List A) → length xs ≡ 5 → take (5 - n) (drop n xs) ≡ drop n xs
+rest n xs e = take_all (5 - n) (drop n xs) (omega (arith, length-drop n xs, e))
+
+rest_whole : (n : ℕ) (rs : List (Range ℕ)) (most : List ℕ) → length rs ≡ 5 → length most ≡ 5 → each_whole n rs most ≡ all_whole (drop n most) (drop n rs)
+rest_whole n rs most a b =
+    ap₂ (λ x y. list_all (λ z. whole z.1 z.0) (zip x y)) (rest n rs a) (rest n most b)
+    ∙ pairs_whole (drop n rs) (drop n most) (omega (arith, length-drop n rs, length-drop n most, a, b))
 
 found_first : (silent rest : ℕ) (b : Bool) (rule : Rule) (later : Option Rule) → unwrap_or (option_map (λ r. r.decision) later) silent ≡ rest
     → unwrap_or (option_map (λ r. r.decision) (cond b (Some rule) later)) silent ≡ cond b rule.decision rest
@@ -86,21 +90,24 @@ module _ (f : ℕ) (p : List ℕ) (rules : List Rule) (i : ℕ) where
         settled : sure ≡ settles f p here
         settled =
             let behind : n + 1 ≡ suc f = omega (arith, at) in
-            ap₂ (λ a b. a && b) (ap₂ inside own this) (ap (λ k. each_whole k rs most) behind ∙ ap₂ (each_whole (suc f)) e all ∙ pairs_whole (suc f) (ranges here.region) tops refl)
+            ap₂ (λ a b. a && b) (ap₂ inside own this) (ap (λ k. each_whole k rs most) behind ∙ ap₂ (each_whole (suc f)) e all ∙ rest_whole (suc f) (ranges here.region) tops refl refl)
 
         both : (a b : Bool) → a ≡ each_holds n rs vs → b ≡ sure → from i ≡ nearest f p (picked a b)
         both a b x y = opened ∙ ap₂ (λ s t. nearest f p (picked s t)) (sym plays ∙ sym x) (sym settled ∙ sym y)
 
-        pub look_on : true ≡ each_holds n rs vs → false ≡ sure → from i ≡ min end (from (i + 1))
+        unsure : true ≡ each_holds n rs vs → false ≡ sure → from i ≡ min end (from (i + 1))
         unfolding nearest
-        look_on inn more = both true false inn more ∙ ap (λ n. min n (from (i + 1))) ends
+        unsure inn more = both true false inn more ∙ ap (λ n. min n (from (i + 1))) ends
 
         pub look_outside : true ≡ each_holds n rs vs → false ≡ inside range value → from i ≡ min end (from (i + 1))
-        look_outside inn out = look_on inn (ap (λ b. b && each_whole (n + 1) rs most) out)
+        look_outside inn out = unsure inn (ap (λ b. b && each_whole (n + 1) rs most) out)
 
-        pub look_last : true ≡ each_holds n rs vs → true ≡ sure → from i ≡ min end top
+        pub look_on : true ≡ each_holds n rs vs → true ≡ inside range value → false ≡ each_whole (n + 1) rs most → from i ≡ min end (from (i + 1))
+        look_on inn own more = unsure inn (ap₂ (λ a b. a && b) own more)
+
+        pub look_last : true ≡ each_holds n rs vs → true ≡ inside range value → true ≡ each_whole (n + 1) rs most → from i ≡ min end top
         unfolding nearest
-        look_last inn last = both true true inn last ∙ ap₂ min ends (sym upper)
+        look_last inn own last = both true true inn (ap₂ (λ a b. a && b) own last) ∙ ap₂ min ends (sym upper)
 
   pub look_end : length rules ≤ i → from i ≡ get_or tops f 0
   unfolding nearest looked_at

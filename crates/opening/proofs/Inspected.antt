@@ -1,5 +1,5 @@
 -- What each exit of looking bytes over says of the first damage. Assumes nothing.
-use Rattle.std.proofs.Common.{◌≡◌, ℕ, ◌-◌, ◌*◌, ◌<◌, ◌≤◌, true, false, List, IsErrAnd, MatchResult, Some, None, Ok, Err, Option, Result, sym, refl, ap, ◌∙◌, arith}
+use Rattle.std.proofs.Common.{◌≡◌, ℕ, ◌-◌, ◌*◌, ◌<◌, ◌≤◌, true, false, List, IsErrAnd, Some, None, Ok, Err, Option, Result, sym, refl, ap, ◌∙◌, arith}
 use Rattle.blocks.specs.Reading.{blocks_in, row_count, rows_in}
 use Rattle.damage.specs.declared.damage.Damage.{Damage}
 use Rattle.damage.specs.declared.damage.Damage.TheVariants.{Length}
@@ -22,10 +22,9 @@ pub same_error : {T E : Type 0} (r : Result T E) (d : E) → IsErrAnd r (λ y. y
 same_error (Ok x) d e = absurd e
 same_error (Err y) d e = ap Err e
 
--- and so is the damage that it tells of
-pub erred : {T : Type 0} (ok : T → Type 0) (o : Option Damage) (r : Result T Damage) (d : Damage) → IsErrAnd r (λ y. y ≡ d) → o ≡ Some d → MatchResult r ok (λ damage. o ≡ Some damage)
-erred ok o (Ok x) d e n = absurd e
-erred ok o (Err y) d e n = n ∙ ap Some (sym e)
+-- and so is the answer that tells of the damage
+pub erred : {T : Type 0} (o : Option Damage) (x : T) (r : Result T Damage) (d : Damage) → IsErrAnd r (λ y. y ≡ d) → o ≡ Some d → r ≡ unless o x
+erred o x r d e n = same_error r d e ∙ ap (λ o. unless o x) (sym n)
 
 module _ (label size : ℕ) (bytes : List ℕ) where
   pub by_length : wrong_length bytes ≡ true → damage_of label size bytes ≡ Some Length

@@ -1,12 +1,11 @@
 -- Tests of lists that the code makes by chains. Assumes nothing.
-use Rattle.std.proofs.Common.{◌≡◌, ℕ, ◌<◌, Bool, false, not, ltb, List, [], ◌∷◌, length, get_or, Some, None, Option, MatchOption, sym, ap, ◌∙◌, inl, inr, refl, eqb, arith}
-use Rattle.std.specs.List.{list_all, find, position, position_or_len, zip}
+use Rattle.std.proofs.Common.{◌≡◌, ℕ, ◌<◌, ◌≤◌, Bool, true, false, List, [], ◌∷◌, length, get_or, Some, None, Option, sym, ap, ap₂, ◌∙◌, ◌⊎◌, inl, inr, refl, eqb, arith}
+use Rattle.std.specs.List.{list_all, position, position_or_len}
 use Rattle.std.proofs.lemmas.Bool.{cases_lt, lt-ltb, le-ltb, lt-leb, le-leb}
 use Rattle.std.proofs.lemmas.Option.{none-some}
 use Rattle.std.proofs.lemmas.List.Quantifiers.{position-Some}
 use Rattle.std.proofs.lemmas.List.Sums.{fails_before_first}
 use Rattle.packet.specs.declared.range.Range.{Range}
-use Rattle.packet.specs.Regions.{inside}
 use Rattle.theory.specs.Holding.{before}
 use Rattle.damage.specs.declared.damage.Damage.{Damage}
 use Rattle.opening.specs.Damages.{all_zero, found, first}
@@ -37,19 +36,21 @@ module _ (test : List ℕ → Bool) (at : ℕ → Damage) (rows : List (List ℕ
     | inr h ↦ none_first n finds (λ j l. fails j l (fails_before_first test rows j [] (omega (arith, h, l, size))))
   ]
 
--- a packet comes before ranges if its value is below the first range that does not hold it
-pub before_is : (rs : List (Range ℕ)) (p : List ℕ) (t : Bool) → length rs ≡ length p
-    → MatchOption (find (λ x. not (inside x.0 x.1)) (zip rs p)) (t ≡ false) (λ x. t ≡ ltb x.1 x.0.low) → t ≡ before rs p
-before_is [] p t e m = m
-before_is (r ∷ rs) [] t e m = absurd (omega arith)
-before_is (r ∷ rs) (v ∷ p) t e m =
-    elim (cases_lt v r.low) [
-      | inl h ↦ let a = lt-ltb v r.low h in let b = lt-leb r.low v h in rw a (rw (b, a) at m)
-      | inr h ↦
-          let a = le-ltb v r.low h in
-          let b = le-leb r.low v h in
-          elim (cases_lt r.high v) [
-            | inl k ↦ let d = lt-leb v r.high k in rw (a, d) (rw (b, d, a) at m)
-            | inr k ↦ let d = le-leb v r.high k in rw (a, d) (before_is rs p t (omega arith) (rw (b, d) at m))
-          ]
-    ]
+-- one step of the test whether a packet comes before ranges, and its end
+module _ (rs later : List (Range ℕ)) (r : Range ℕ) (p rest : List ℕ) (v : ℕ) (w : Bool) (so_far : before rs p ≡ w) (one : rs ≡ r ∷ later) (other : p ≡ v ∷ rest) where
+  step : before (r ∷ later) (v ∷ rest) ≡ w
+  step = ap₂ before (sym one) (sym other) ∙ so_far
+
+  pub before_low : v < r.low → true ≡ w
+  before_low h = let a = lt-ltb v r.low h in rw a at step
+
+  pub before_high : r.low ≤ v → r.high < v → false ≡ w
+  before_high h k = let a = le-ltb v r.low h in let b = lt-leb v r.high k in rw (a, b) at step
+
+  pub before_inside : r.low ≤ v → v ≤ r.high → before later rest ≡ w
+  before_inside h k = let a = le-ltb v r.low h in let b = le-leb v r.high k in rw (a, b) at step
+
+pub before_end : (rs : List (Range ℕ)) (p : List ℕ) (w : Bool) → before rs p ≡ w → (rs ≡ []) ⊎ (p ≡ []) → false ≡ w
+before_end [] p w e h = e
+before_end (r ∷ rs) [] w e h = e
+before_end (r ∷ rs) (v ∷ p) w e h = elim h [ inl a ↦ absurd (omega (arith, ap length a)) | inr b ↦ absurd (omega (arith, ap length b)) ]

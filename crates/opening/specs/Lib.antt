@@ -1,5 +1,6 @@
 pub mod Damages
 pub mod Answers
+pub mod Searching
 pub mod Words
 pub mod Opened
 pub mod Tables

@@ -13,15 +13,16 @@ use Rattle.theory.proofs.Holding.{reaches}
 use Rattle.table.specs.Rows.{most_rows}
 use Rattle.blocks.specs.Numbers.{Bytes}
 use Rattle.blocks.specs.Writing.{packed}
-use Rattle.blocks.specs.Reading.{rows_in}
+use Rattle.blocks.specs.Reading.{row_count, rows_in}
 use Rattle.damage.specs.declared.damage.Damage.{Damage}
 use Rattle.damage.specs.declared.refusal.OpenRefusal.{OpenRefusal}
 use Rattle.damage.specs.declared.refusal.OpenRefusal.TheVariants.{Damaged}
 use Rattle.opening.specs.declared.packed_table.Table.{Table}
 use Rattle.opening.specs.Damages.{damage_of}
 use Rattle.opening.specs.Opened.{Decided, meant, range_end, Opens, DecidesAsPacked, PacksToItself}
+use Rattle.opening.specs.Searching.{HoldsNested}
 use Rattle.opening.specs.Firsts.{none_some}
-use Rattle.opening.specs.Undone.{packs_back, opens_packed, clean_decided}
+use Rattle.opening.specs.Undone.{packs_back, opens_packed, clean_nested, clean_room, clean_decided}
 
 -- the end of the range that holds a packet is an edge
 pub range_end_edge : (size silent : ℕ) (bytes : List ℕ) → passes tops (rows_in bytes) ≡ true → (f : ℕ) (p : List ℕ) (r : ℕ) → f < length tops → Within tops p → r ≡ range_end bytes f p → Edge (meant size silent bytes) p f r
@@ -33,6 +34,10 @@ range_end_edge size silent bytes n f p r h w e =
       most = omega (arith, reach.most, e);
       alike = λ x y rest i a b c d. ap (known size silent) (reach.alike x y rest i (omega (arith, reach.low, a)) (omega (arith, e, b)) (omega (arith, reach.low, c)) (omega (arith, e, d)));
     }
+
+-- bytes without damage hold nested rows
+pub clean_holds : (label size : ℕ) (bytes : List ℕ) (rows : ℕ) → damage_of label size bytes ≡ None → rows ≡ row_count bytes → HoldsNested bytes rows
+clean_holds label size bytes rows n e = record { count = e; room = omega (arith, (clean_room label size bytes n).0, e); nested = clean_nested label size bytes n }
 
 -- what rows without damage decide is of the kind, so nothing counts as silent
 all_known : (label size silent : ℕ) (bytes : List ℕ) → damage_of label size bytes ≡ None → (p : List ℕ) → Within tops p → meant size silent bytes p ≡ lookup (rows_in bytes) p

@@ -26,8 +26,19 @@ pub fn inspect<K: Kind>(bytes: &[u8]) -> Result<usize, Damage>
     ensures answer { result ≡ inspected K.Kind.NUMBER K.Kind.COUNT bytes.now }
     ensures words { Says (damage_of K.Kind.NUMBER K.Kind.COUNT bytes.now) (rows_in bytes.now) }
 {
-    let nested = whole_table::<K>(bytes)?;
-    Ok(nested.rows.count)
+    if bytes.is_empty() || bytes.len() % BLOCK_BYTES != 0 || bytes.len() > MOST_BYTES {
+        return Err(Damage::Length);
+    }
+    let blocks = bytes.len() / BLOCK_BYTES;
+    // By number: a damage names its block.
+    for number in 0..blocks {
+        check_block::<K>(bytes, number)?;
+    }
+    let last = number_of(&block_at(bytes, blocks - 1)[..2]) as usize;
+    let count = BLOCK_ROWS * (blocks - 1) + last;
+    let nested = check_nesting(Rows { bytes, count })?;
+    check_neighbours(&nested)?;
+    Ok(count)
 }
 
 // The decision of the row that holds the packet, or the first damage of the bytes. Nothing is allocated.
@@ -42,17 +53,7 @@ pub fn decide_packed<K: Kind>(bytes: &[u8], packet: &Packet) -> Result<u8, Damag
 pub(crate) fn whole_table<K: Kind>(bytes: &[u8]) -> Result<Nested<'_>, Damage>
     ensures { MatchResult result (λ nested. (nested.rows.bytes.now ≡ bytes.now) × (damage_of K.Kind.NUMBER K.Kind.COUNT bytes.now ≡ None)) (λ damage. damage_of K.Kind.NUMBER K.Kind.COUNT bytes.now ≡ Some damage) }
 {
-    if bytes.is_empty() || bytes.len() % BLOCK_BYTES != 0 || bytes.len() > MOST_BYTES {
-        return Err(Damage::Length);
-    }
-    let blocks = bytes.len() / BLOCK_BYTES;
-    // By number: a damage names its block.
-    for number in 0..blocks {
-        check_block::<K>(bytes, number)?;
-    }
-    let last = number_of(&block_at(bytes, blocks - 1)[..2]) as usize;
-    let count = BLOCK_ROWS * (blocks - 1) + last;
-    let nested = check_nesting(Rows { bytes, count })?;
-    check_neighbours(&nested)?;
-    Ok(nested)
+    let count = inspect::<K>(bytes)?;
+    let rows = Rows { bytes, count };
+    Ok(Nested { rows })
 }

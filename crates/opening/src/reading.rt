@@ -21,11 +21,13 @@ pub(crate) fn number_of(bytes: &[u8]) -> u32
     ensures value { result ≡ number_of bytes.now }
     ensures bound { result < 256 ^ length bytes.now }
 {
-    let mut number = 0;
-    for byte in bytes {
-        number = number * 256 + u32::from(*byte);
-    }
-    number
+    u32::from_be_bytes(match *bytes {
+        [] => [0, 0, 0, 0],
+        [d] => [0, 0, 0, d],
+        [c, d] => [0, 0, c, d],
+        [b, c, d] => [0, b, c, d],
+        [a, b, c, d, ..] => [a, b, c, d],
+    })
 }
 
 // The range of a field in a row.

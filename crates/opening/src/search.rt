@@ -1,8 +1,7 @@
 // The row that holds a packet.
-ghost use Rattle.std.specs.Prelude.{◌≡◌, ◌<◌, true, not};
-ghost use Rattle.std.specs.List.{find, zip};
+ghost use Rattle.std.specs.Prelude.{◌≡◌, ◌<◌, true};
 ghost use Rattle.packet.specs.Packets.{values, tops, place};
-ghost use Rattle.packet.specs.Regions.{inside, range_at};
+ghost use Rattle.packet.specs.Regions.{range_at};
 ghost use Rattle.theory.specs.Steps.{passes};
 ghost use Rattle.theory.specs.Tables.{lookup};
 ghost use Rattle.theory.specs.Holding.{held, before};
@@ -56,21 +55,18 @@ impl Nested<'_> {
     }
 }
 
-// Does the packet come before the ranges? On the first field whose range does not hold its value, the value is below the range.
+// Does the packet come before the ranges? On the first field whose range does not hold its value, the value is below the range. A loop,
+// since `find` would put together each range that it gives.
 fn is_before(ranges: &[Range<u32>; Field::COUNT], packet: Packet) -> bool
     ensures { result ≡ before ranges.now (values packet) }
 {
-    match first_missed(ranges, packet) {
-        Some((range, value)) => value < range.low,
-        None => false,
+    for (range, value) in ranges.iter().zip(&packet.to_array()) {
+        if *value < range.low {
+            return true;
+        }
+        if *value > range.high {
+            return false;
+        }
     }
-}
-
-// The first range that does not hold the packet's value, and this value.
-fn first_missed(ranges: &[Range<u32>; Field::COUNT], packet: Packet) -> Option<(Range<u32>, u32)>
-    ensures { result ≡ find (λ p. not (inside p.0 p.1)) (zip ranges.now (values packet)) }
-{
-    let values = packet.to_array();
-    let mut pairs = ranges.iter().copied().zip(values.iter().copied());
-    pairs.find(|(range, value)| !range.contains(*value))
+    false
 }

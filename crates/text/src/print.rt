@@ -20,6 +20,10 @@ fn push_letter(out: &mut String, letter: u8) -> Result<(), AllocError>
 fn push_number(out: &mut String, number: u32) -> Result<(), AllocError>
     ensures { Appended result (string_bytes out.old) (decimal number) (string_bytes out.new) }
 {
+    // One digit is written without the buffer, which most numbers of an address would pay for.
+    if number < 10 {
+        return push_letter(out, b'0' + number as u8);
+    }
     out.push_str(Buffer::new().format(number))
 }
 

@@ -1,5 +1,5 @@
 // A book as a source.
-ghost use Rattle.std.specs.Prelude.{◌≡◌, take, drop, find, option_map};
+ghost use Rattle.std.specs.Prelude.{◌≡◌, find, option_map};
 ghost use Rattle.std.specs.List.{list_all, zip};
 ghost use Rattle.packet.specs.Packets.{values, place};
 ghost use Rattle.packet.specs.Regions.{ranges, inside, holds};
@@ -56,10 +56,10 @@ fn nearest_end(rules: &[Rule], field: Field, packet: Packet) -> u32
     let mut end = top;
     for rule in rules {
         let ranges = rule.region.to_array();
-        if hold_before(&ranges, &values, place) {
-            let range = rule.region.range(field);
+        if all_hold(&ranges[..place], &values[..place]) {
+            let range = ranges[place];
             end = end.min(range.run_end(value, top));
-            if range.contains(value) && are_whole_from(&ranges, &largest, place + 1) {
+            if range.contains(value) && are_whole(&ranges[place + 1..], &largest[place + 1..]) {
                 return end;
             }
         }
@@ -67,25 +67,23 @@ fn nearest_end(rules: &[Rule], field: Field, packet: Packet) -> u32
     end
 }
 
-// Do the ranges before the place hold their values?
-fn hold_before(ranges: &[Range<u32>], values: &[u32], place: usize) -> bool
-    ensures { result ≡ list_all (λ pair. inside pair.0 pair.1) (take place (zip ranges.now values.now)) }
+// Does each range hold the value at its place?
+fn all_hold(ranges: &[Range<u32>], values: &[u32]) -> bool
+    ensures { result ≡ list_all (λ pair. inside pair.0 pair.1) (zip ranges.now values.now) }
 {
     ranges
         .iter()
         .zip(values)
-        .take(place)
         .all(|(range, value)| range.contains(*value))
 }
 
-// Do the ranges from the place on hold every value of their fields?
-fn are_whole_from(ranges: &[Range<u32>], largest: &[u32], place: usize) -> bool
-    ensures { result ≡ list_all (λ pair. whole pair.1 pair.0) (drop place (zip ranges.now largest.now)) }
+// Does each range hold every value up to the largest at its place?
+fn are_whole(ranges: &[Range<u32>], largest: &[u32]) -> bool
+    ensures { result ≡ list_all (λ pair. whole pair.1 pair.0) (zip ranges.now largest.now) }
 {
     ranges
         .iter()
         .zip(largest)
-        .skip(place)
         .all(|(range, largest)| is_whole(*range, *largest))
 }
 

@@ -3,7 +3,7 @@ ghost use Rattle.std.specs.Prelude.{◌≡◌};
 ghost use Rattle.blocks.specs.Reading.{row_count};
 ghost use Rattle.opening.specs.Opened.{bytes_of, Opens, DecidesAsPacked, PacksToItself};
 
-use crate::inspection::whole_table;
+use crate::inspection::inspect;
 use crate::packed_table::Table;
 use crate::rows::Rows;
 use crate::search::Nested;
@@ -19,7 +19,7 @@ impl<K: Kind> Table<K> {
         ensures decides { DecidesAsPacked K.Kind.NUMBER K.Kind.COUNT K.Kind.SILENT bytes.now result }
         ensures packs_back { PacksToItself K.Kind.NUMBER K.Kind.COUNT K.Kind.SILENT bytes.now result }
     {
-        let rows = whole_table::<K>(bytes)?.rows.count;
+        let rows = inspect::<K>(bytes)?;
         let bytes = Vec::from_slice(heap, bytes)?;
         Ok(Table {
             bytes,

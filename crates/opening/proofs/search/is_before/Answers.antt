@@ -1,18 +1,15 @@
-use Rattle.std.proofs.Common.{◌≡◌, ℕ, Bool, not, false, ltb, List, length, Some, None, Option, MatchOption, refl}
-use Rattle.std.specs.List.{find, zip}
-use Rattle.packet.specs.declared.range.Range.{Range}
-use Rattle.packet.specs.Packets.{values}
-use Rattle.packet.specs.Regions.{inside}
-use Rattle.theory.specs.Holding.{before}
-use Rattle.opening.proofs.Tests.{before_is}
+use Rattle.std.proofs.lemmas.Slice.Zip.{either_empty_from_Zip}
+use Rattle.opening.proofs.Tests.{before_low, before_high, before_inside, before_end}
 use Rattle.opening.proofs.search.is_before.Goals as goal
 
--- the first range that does not hold its value tells
-tells : (rs : List (Range ℕ)) (p : List ℕ) → length rs ≡ length p → (o : Option (Range ℕ × ℕ)) → o ≡ find (λ x. not (inside x.0 x.1)) (zip rs p) → (t : Bool) → MatchOption o (t ≡ false) (λ x. t ≡ ltb x.1 x.0.low) → t ≡ before rs p
-tells rs p e o is t m = before_is rs p t e (rw is at m)
+pub returns-then-value-range : goal.returns-then-value-range
+returns-then-value-range c = before_low _ _ _ _ _ _ _ c.loop-range.invariant c.in-Some.ensures.steps.0 c.in-Some.ensures.steps.1 c.if-value-range.true
 
-pub returns-in-Some : goal.returns-in-Some
-returns-in-Some c = tells c.args.ranges.now (values c.args.packet) c.told-ranges (Some (c.in-Some.range, c.in-Some.value)) c.in-Some.ensures _ refl
+pub returns-then-value-range-2 : goal.returns-then-value-range-2
+returns-then-value-range-2 c = before_high _ _ _ _ _ _ _ c.loop-range.invariant c.in-Some.ensures.steps.0 c.in-Some.ensures.steps.1 c.if-value-range.false c.if-value-range-2.true
 
-pub returns-in-None : goal.returns-in-None
-returns-in-None c = tells c.args.ranges.now (values c.args.packet) c.told-ranges None c.in-None.ensures _ refl
+pub loop-range-preserved : goal.loop-range-preserved
+loop-range-preserved c = before_inside _ _ _ _ _ _ _ c.loop-range.invariant c.in-Some.ensures.steps.0 c.in-Some.ensures.steps.1 c.if-value-range.false c.if-value-range-2.false
+
+pub returns : goal.returns
+returns c = before_end _ _ _ c.loop-range.invariant (either_empty_from_Zip c.loop-range.range-iterator c.next.new.self _ c.in-None.is c.next.ensures.steps)

@@ -5,7 +5,7 @@ use Rattle.book.proofs.book.source.nearest_end.Given as goal
 
 abbrev pub invariant-loop-rule : goal.invariant-loop-rule
 invariant-loop-rule l = record {
-  most : l.end ≤ get_or tops (place l.field) 0;
-  rest : nearest (place l.field) (values l.fn.packet) (looked_at (place l.field) (values l.fn.packet) l.rules)
-      ≡ min l.end (nearest (place l.field) (values l.fn.packet) (looked_at (place l.field) (values l.fn.packet) (drop l.rule-index l.rules)));
+  most : l.end ≤ get_or tops (place l.fn.field) 0;
+  rest : nearest (place l.fn.field) (values l.fn.packet) (looked_at (place l.fn.field) (values l.fn.packet) l.rules)
+      ≡ min l.end (nearest (place l.fn.field) (values l.fn.packet) (looked_at (place l.fn.field) (values l.fn.packet) (drop l.rule-index l.rules)));
 }
