@@ -20,7 +20,7 @@ fn push_letter(out: &mut String, letter: u8) -> Result<(), AllocError>
 fn push_number(out: &mut String, number: u32) -> Result<(), AllocError>
     ensures { Appended result (string_bytes out.old) (decimal number) (string_bytes out.new) }
 {
-    // One digit is written without the buffer, which most numbers of an address would pay for.
+    // One digit is written as a letter, since the buffer costs more than the digit.
     if number < 10 {
         return push_letter(out, b'0' + number as u8);
     }
